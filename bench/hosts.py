@@ -2,15 +2,15 @@
 """Times `cardswitch run --config` with two hosts, one of which is silent: how long the other one's requests wait.
 
     bench/hosts.py [--program PATH] [--requests N] [--rounds N] [--flying N] [--sessions N] [--timeout MS] [--retry MS] [--echo S]
-                   [--dead] [--first]
+                   [--dead] [--first] [--unordered] [--rate N]
     bench/hosts.py --latency MS [--program PATH] [--count N] [--in-flight N] [--sessions N] [--rounds N] [--folder PATH]
 
 Both hosts are examples/hosts/host.py at named pipes. Alpha answers at once. Beta gives no answer to a request, so each of its requests
 waits for the timeout. With --retry only one of them does, and then beta is not asked for --retry milliseconds. Beta accepts the advices that follow.
 With --echo it gets echo tests, and answers them. With --dead it reads all that it is sent, and never answers anything: then its first
 request comes before those that are timed. The requests come over a pipe, with --flying of them in flight, and 0, 1, 10 or 50 of a hundred
-are for beta's cards, at random places. With threads the responses of a batch leave when the whole batch has ended, so that a request to
-alpha waits for those to beta in its batch.
+are for beta's cards, at random places. With threads responses leave in the order of requests, so that a request to alpha waits for earlier
+ones to beta; with --unordered each leaves as its transaction ends. With --rate at most N requests a second are sent.
 
 With --first the first request to beta is one of those that are timed, with --dead too. Two more rows say what it costs: how long alpha's
 requests wait at most, and how many of them wait for over half the timeout, which should be far longer than they wait without beta.
@@ -31,6 +31,7 @@ import collections
 import contextlib
 import os
 import random
+import select
 import statistics
 import subprocess
 import sys
@@ -39,11 +40,13 @@ import time
 
 import latency
 import run
-from threads import EARLY, cells, in_turns, percentile, talk
+from threads import EARLY, cells, in_turns, percentile
 
 HOST = os.path.join(run.TOP, "examples", "hosts", "host.py")
 # How many of a hundred requests are for beta.
 SHARES = (0, 1, 10, 50)
+# Where the STAN of a frame of an authorization and of its response is.
+STAN = slice(70, 76)
 # An amount that a host answers at once, and one that it does not answer (host.py).
 ANSWERED, SILENT = 100, 191
 CONFIG = """
@@ -79,6 +82,25 @@ def frame(number, is_beta):
     return b"%04d" % len(message) + message
 
 
+def talk(process, frames, given):
+    """Sends frames, at most --flying of which wait for their responses at once, and at most --rate a second. Gives how long each waits,
+    by its STAN."""
+    sent, took, came, due = {}, {}, b"", time.perf_counter()
+    while frames or sent:
+        while frames and len(sent) < given.flying and time.perf_counter() >= due:
+            sent[frames[0][STAN]] = time.perf_counter()
+            process.stdin.write(frames.popleft())
+            due += 1 / given.rate if given.rate else 0
+        wait = max(due - time.perf_counter(), 0) if frames and len(sent) < given.flying else None
+        if select.select([process.stdout], [], [], wait)[0]:
+            came += os.read(process.stdout.fileno(), 65_536)
+        now = time.perf_counter()
+        while len(came) >= 4 and len(came) >= (size := 4 + int(came[:4])):
+            took[int(came[STAN])] = now - sent.pop(came[STAN])
+            came = came[size:]
+    return took
+
+
 def kinds(share, count):
     """Which of this many requests are for beta."""
     betas = set(random.Random(share).sample(range(count), count * share // 100))
@@ -105,7 +127,7 @@ def hosts(room, is_dead):
 def measured(given, side, share):
     """The requests a second of a run, and the seconds that each of alpha's requests waits for its response."""
     words = [os.path.abspath(given.program), "run", "--flow", run.EXAMPLE, "--config", "config.toml"]
-    words += [] if side == "no threads" else ["--threads", "--sessions", str(side)]
+    words += [] if side == "no threads" else ["--threads", "--sessions", str(side), *["--unordered"] * given.unordered]
     are_beta = kinds(share, given.requests)
     is_early = given.dead and not given.first
     early = collections.deque(frame(number, is_early and number == 0) for number in range(EARLY))
@@ -116,13 +138,13 @@ def measured(given, side, share):
             it.write(CONFIG.format(timeout=given.timeout, retry=given.retry, echo=given.echo))
         with subprocess.Popen(words, cwd=room, **streams) as process:
             # (some are sent first, while the program starts and opens the pipes)
-            collections.deque(talk(process, early, given.flying), maxlen=0)
+            talk(process, early, given)
             began = time.perf_counter()
-            took = list(talk(process, frames, given.flying))
+            took = talk(process, frames, given)
             rate = given.requests / (time.perf_counter() - began)
             process.stdin.close()
             assert process.wait() == 0, process.returncode
-    return rate, [seconds for seconds, is_beta in zip(took, are_beta) if not is_beta]
+    return rate, [took[EARLY + number] for number, is_beta in enumerate(are_beta) if not is_beta]
 
 
 def rows(given, share):
@@ -154,6 +176,8 @@ def main():
     parser.add_argument("--echo", type=int, default=0, help="after how many seconds without a frame beta gets an echo test")
     parser.add_argument("--dead", action="store_true", help="beta answers nothing at all")
     parser.add_argument("--first", action="store_true", help="beta's first request is one of those that are timed")
+    parser.add_argument("--unordered", action="store_true", help="with threads, each response leaves as its transaction ends")
+    parser.add_argument("--rate", type=int, default=0, help="how many requests a second are sent at most; 0: as many as may be in flight")
     parser.add_argument("--latency", type=int, help="a host that answers each request by itself this many milliseconds after it came")
     parser.add_argument("--count", type=int, default=2000, help="with --latency: how many requests are at the input at once")
     parser.add_argument("--in-flight", type=int, default=16, help="with --latency: how many of them may be under way at the host")

@@ -34,6 +34,8 @@ from model import messages  # noqa: E402
 # How long a query waits, in seconds, how long a case may take, and what counts as at once on a busy machine. And how long a query may
 # wait on a busy machine: less than one without a `timeout_ms`.
 TIMEOUT, CASE, AT_ONCE, MOST = 1.5, 120, 1.1, 8
+# With threads a leg has ended this long after its last response, and stored advices are sent then.
+LEG = 0.3
 CONFIG = """
 [[host]]
 name = "alpha"
@@ -341,9 +343,11 @@ def advices_of_two_hosts(program, room):
             more = {"beta": PIPES, "more": "\n[run]\nadvices = 1\n"}
             with switch(program, inner, "--journal", "journal.db", *words, **more) as (run, wire):
                 wanted("field 38 for the host that is not there", run.ask(request(1, 400, FIVE))[1].get(38), b"SI0001")
+                time.sleep(LEG)
                 run.send(request(2, 400))
                 wire.get()
                 wanted("field 38 for the silent host", run.receive()[1].get(38), b"SI0002")
+                time.sleep(LEG)
                 for stan, its in (3, [b"0420"]), (4, [b"0120"]), (5, []):
                     run.send(request(stan))
                     wire.put(reply(wire.get()))
@@ -733,9 +737,47 @@ def asked_at_once(program, room):
         wanted("field 38 of each response", [run.receive()[1].get(38) for _ in batch], [b"HOST42"] * 3)
 
 
-def silent_in_a_batch(program, room):
-    """With threads the responses of a batch wait for a silent host: for each of its requests, and with `retry_ms` only for one of them. Its
-    advices go to that host, one after the other like its requests."""
+def unordered(program, room):
+    """With `--unordered` another host's response comes while a silent host's query is out."""
+    words = ["--threads", "--sessions", "4", "--unordered"]
+    with switch(program, room, *words, beta=PIPES) as (run, wire):
+        other = Wire(room, "beta")
+        other.listen()
+        began = time.monotonic()
+        run.send(request(1, 400, FIVE))
+        other.get()
+        run.send(request(2))
+        wire.put(reply(wire.get()))
+        wanted("field 38 of the first response", run.receive()[1].get(38), b"HOST42")
+        if time.monotonic() - began > TIMEOUT - 0.1:
+            raise Wrong("the response waited for the silent host")
+        wanted("field 38 of the second response", run.receive()[1].get(38), b"SI0001")
+        run.process.stdin.close()
+        wanted("advices at the silent host", answers(other, b"00", b"00"), [b"0420", b"0120"])
+        run.end()
+
+
+def answered_before_a_silent_host(program, room):
+    """With threads a response does not wait for a later request, whose host is silent."""
+    with switch(program, room, "--threads", "--sessions", "4", beta=PIPES) as (run, wire):
+        other = Wire(room, "beta")
+        other.listen()
+        run.send_batch([request(1), request(2, 400, FIVE)])
+        other.get()
+        began = time.monotonic()
+        wire.put(reply(wire.get()))
+        wanted("field 38 of the first response", run.receive()[1].get(38), b"HOST42")
+        if time.monotonic() - began > TIMEOUT / 2:
+            raise Wrong("the response waited for the silent host")
+        wanted("field 38 of the second response", run.receive()[1].get(38), b"SI0002")
+        run.process.stdin.close()
+        wanted("advices at the silent host", answers(other, b"00", b"00"), [b"0420", b"0120"])
+        run.end()
+
+
+def silent_among_others(program, room):
+    """With threads responses leave in the order of requests, and so wait for a silent host: for each of its requests, and with `retry_ms` only
+    for one of them. Its advices go to that host, one after the other like its requests."""
     words = ["--threads", "--sessions", "4"]
     for more, waits in ("", 2), ("\nretry_ms = 60000", 1), ("\nretry_ms = 60000\necho_s = 30", 1):
         with tempfile.TemporaryDirectory(dir=room) as inner, switch(program, inner, *words, beta=PIPES + more) as (run, wire):
@@ -752,7 +794,7 @@ def silent_in_a_batch(program, room):
             given = sorted(run.receive()[1].get(38) for _ in batch)
             wanted("field 38 of each response", given, [b"HOST42", b"SI0001", b"SI0002"])
             if time.monotonic() - began < waits * TIMEOUT - 0.01:
-                raise Wrong("the responses of the batch did not wait for the silent host")
+                raise Wrong("the responses did not wait for the silent host")
             wanted("at the silent host", other.read(0), b"")
             run.process.stdin.close()
             if waits == 2:
@@ -1076,7 +1118,9 @@ CASES = [
     reported_unopened,
     reported_at_the_end,
     asked_at_once,
-    silent_in_a_batch,
+    unordered,
+    answered_before_a_silent_host,
+    silent_among_others,
     four_under_way,
     answered_in_reverse,
     answered_twice,

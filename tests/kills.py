@@ -1,10 +1,10 @@
 #!/usr/bin/env python3
 """Kills `cardswitch run` at random moments of a run on a journal's file, and starts it again on the rest of the requests.
 
-    tests/kills.py [--threads] [--seed N] [--count N] [--program PATH]
+    tests/kills.py [--threads [--unordered]] [--seed N] [--count N] [--program PATH]
 
-With --threads the runs have 8 sessions as threads, and the requests come in pieces, each of which is a batch: a kill may leave
-several transactions unfinished. After each kill, and at the end, SQLite's own library reads the journal. After each kill: no
+With --threads the runs have 8 sessions as threads, and the requests come in pieces: a kill may leave
+several transactions unfinished. With --unordered their responses leave as they end; without it, in the order of requests. After each kill, and at the end, SQLite's own library reads the journal. After each kill: no
 transaction whose response was read is unfinished, so that no later run aborts it; a stored reversal is of a request that got no
 response, or whose issuer is silent; no row is at fault, and what `recover` prints and leaves, on a copy, is what the plain model
 makes of the rows. No id is given twice, and an advice that a kill leaves stays in the journal until a run has answered all requests. That run
@@ -49,6 +49,11 @@ def frames(chosen):
         text = b"0100" + b"7220000000808000" + b"164" + b"%015d" % number + b"000000" + b"%012d" % (100 + last)
         made.append(b"0083" + text + b"0102030405" + b"%06d" % number + b"TERM0001978")
     return made, silent
+
+
+def number_of(response):
+    """Which request a response answers: its STAN."""
+    return int(messages.decode(response[4:])[1][11])
 
 
 def pieces(chosen, made):
@@ -152,7 +157,7 @@ def end_faults(path):
 def ran(chosen, given, path, made, seconds=None):
     """What comes of a run on these frames, killed after this many seconds, if any."""
     command = [given.program, "run", "--flow", FLOW, "--journal", path, "--stats"]
-    command += ["--threads", "--sessions", str(SESSIONS)] * given.threads
+    command += ["--threads", "--sessions", str(SESSIONS)] * given.threads + ["--unordered"] * given.unordered
     given_in = [*pieces(chosen, made)] if given.threads else [b"".join(made)]
     return inputs.run_in_packets(command, given_in, seconds, {})
 
@@ -169,16 +174,19 @@ def one(chosen, given, room, most, left):
     kill leaves is added to `left`."""
     made, silent = frames(chosen)
     path = os.path.join(room, f"{chosen.random()}.db")
-    answered, at, kills, status, tables = {}, 0, 0, None, None
+    answered, rest, kills, status, tables = {}, [*range(len(made))], 0, None, None
     while status is None:
         first = tables.meta[2] if tables else 1
         seconds = chosen.uniform(0.001, most) if kills < KILLS else None
-        out, told, status = ran(chosen, given, path, made[at:], seconds)
-        count = len(messages.frames(out))
-        answered |= {first - 1 + number: at + number for number in range(count)}
-        before, at, kills, tables = tables, at + count, kills + 1, tables_of(path)
+        out, told, status = ran(chosen, given, path, [made[number] for number in rest], seconds)
+        found = [*map(number_of, messages.frames(out))]
+        if not given.unordered and found != rest[: len(found)]:
+            yield f"the responses {found} are not in the order of the requests {rest}"
+        answered |= {first - 1 + rest.index(number): number for number in found}
+        before, kills, tables = tables, kills + 1, tables_of(path)
+        rest = [number for number in rest if number not in found]
         yield from faults_of(given.program, tables, path, answered, silent)
-        yield from lost_faults(before, tables, at == len(made), told)
+        yield from lost_faults(before, tables, not rest, told)
         left += [len(tables.tx)] if tables and status is None else []
     if status != 0:
         yield f"it ended with {status}: {told.decode()}"
@@ -189,6 +197,7 @@ def arguments():
     """The words of the command line."""
     parser = argparse.ArgumentParser(description="Kills runs of the program.")
     parser.add_argument("--threads", action="store_true", help="runs with sessions as threads")
+    parser.add_argument("--unordered", action="store_true", help="with --threads, responses leave as transactions end")
     parser.add_argument("--seed", type=int, default=random.SystemRandom().randrange(10**9))
     parser.add_argument("--count", type=int, default=20, help=f"how many journals; each has up to {KILLS} kills")
     parser.add_argument("--program", default=BUILT)
@@ -203,7 +212,7 @@ def main():
         for number in range(given.count):
             faults = list(one(random.Random(given.seed + number), given, room, most, left))
             for fault in faults:
-                words = "--threads " * given.threads
+                words = "--threads " * given.threads + "--unordered " * given.unordered
                 print(f"FAILED kills {words}--seed {given.seed + number} --count 1: {fault}")
             failed += bool(faults)
     several = sum(count > 1 for count in left)

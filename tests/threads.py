@@ -7,16 +7,17 @@ apart     Transactions that do not see one another. For 1, 2, 4 and 16 sessions,
           comes, the run writes the bytes that the model has for the requests one after the other, and so does `run` without threads.
 crowd     Transactions of all classes that meet. The model follows the trace line by line (model/threads.py), and then has the
           responses and the journal of the run.
-crush     The same with more messages than a batch has. At least two transactions are under way at once: `--threads` is not ignored.
+crush     The same with 600 messages. At least two transactions are under way at once: `--threads` is not ignored.
 ends      A stream that ends within a frame, or with a bad length, and messages that cannot be read: what came before is
           answered, and text and status are those of `run` without threads.
-refusing  A journal's file that may not grow: responses and trace are those of whole batches, and none of their
-          transactions is unfinished.
+refusing  A journal's file that may not grow, and an input that stays open: the run ends. Its trace is that of whole legs, whose
+          responses come first. By classes, no more responses come than later requests, without those that are unfinished.
 
 WORD picks the runs whose names have these letters. The last line has the counts; the status is 1 if a run failed.
 """
 
 import argparse
+import collections
 import itertools
 import os
 import random
@@ -42,30 +43,27 @@ SECONDS = 60
 SESSIONS = (1, 2, 4, 16)
 LIMITS = (10_000, 10_000, 10_000, 700, 999_999_999_999_999)
 FLOWS = {"whole": requests.whole_flow(), "short": requests.short_flow()}
-# How many messages a batch has if the journal's file may not grow.
-FEW = 4
 
 
-# Ways in which the input comes. Each gives what runs a command on it, and the numbers of the messages with which batches begin, if known.
+# Ways in which the input comes. Each gives what runs a command on it.
 
 
 def on_file(room, _, made, text):
     path = room.new("frames")
     with open(path, "wb") as file:
         file.write(text)
-    reads = [threads.READ] * (len(text) // threads.READ + 1)
-    return (lambda words: inputs.run_on_file(words, path, SECONDS, {})), threads.begins(made, reads)
+    return lambda words: inputs.run_on_file(words, path, SECONDS, {})
 
 
 def in_packets(_, chosen, made, text):
     # (a larger piece is several packets)
     pieces = [piece[at : at + 4096] for piece in inputs.cut(chosen, text) for at in range(0, len(piece), 4096)]
-    return (lambda words: inputs.run_in_packets(words, pieces, SECONDS, {})), threads.begins(made, map(len, pieces))
+    return lambda words: inputs.run_in_packets(words, pieces, SECONDS, {})
 
 
 def with_pauses(_, chosen, made, text):
     pieces = [(chosen.uniform(0, 0.01), piece) for piece in inputs.cut(chosen, text)]
-    return (lambda words: inputs.run_on_pipe(words, pieces, SECONDS, {})), None
+    return lambda words: inputs.run_on_pipe(words, pieces, SECONDS, {})
 
 
 def in_talk(_, chosen, made, text):
@@ -75,7 +73,11 @@ def in_talk(_, chosen, made, text):
         its = made[at : at + chosen.randint(1, 6)]
         at, wanted = at + len(its), wanted + sum(map(threads.is_answered, its))
         turns.append((b"".join(map(messages.framed, its)), wanted))
-    return (lambda words: inputs.run_in_talk(words, turns, lambda out: len(messages.frames(out)), SECONDS, {})), None
+    return lambda words: inputs.run_in_talk(words, turns, lambda out: len(messages.frames(out)), SECONDS, {})
+
+
+def on_open_pipe(_, _chosen, _made, text):
+    return lambda words: inputs.run_on_open_pipe(words, text, SECONDS, {})
 
 
 WAYS = (on_file, in_packets, with_pauses, in_talk)
@@ -138,7 +140,7 @@ def apart(run):
     made = requests.apart(run.chosen, 15 if run.has_file else 40)
     switch = Switch(run.flow, run.limit)
     out = switch.run(made)
-    give, _ = run.input_of(made)
+    give = run.input_of(made)
     for options in ((), run.threads):
         compare(run.ran(give, *options), out, requests.Told(requests.passed(made)))
         if run.has_file:
@@ -159,10 +161,10 @@ def crush(run):
 def followed(run, count):
     """Follows the trace of a run of at least this many messages."""
     made = requests.crowd(run.chosen, run.limit, count)
-    give, begins = run.input_of(made)
+    give = run.input_of(made)
     came = run.ran(give, *run.threads, "--trace")
     need(came.status == 0, f"status: wanted 0, came {came.status}, and standard error ends with {came.stderr[-300:]!r}")
-    switch, most = threads.follow(run.flow, run.limit, run.sessions, made, begins, came.stderr.decode().split("\n")[:-1])
+    switch, most = threads.follow(run.flow, run.limit, run.sessions, made, came.stderr.decode().split("\n")[:-1])
     compare(came, switch.responses(), Exactly(came.stderr))
     if run.has_file:
         wanted, rows = requests.tables(switch), list(tables.lines(run.journal))
@@ -184,7 +186,7 @@ def ends(run):
     made.insert(run.chosen.randrange(11), run.chosen.choice(requests.UNREADABLE))
     tail, text = tail_of(run.chosen, len(made))
     out = Switch(run.flow, run.limit).run(made)
-    give, _ = run.input_of(made, tail)
+    give = run.input_of(made, tail)
     plain = run.ran(give)
     need(plain.stderr.decode().splitlines()[-1:] == [text], f"wanted that {text!r} is reported, came {plain.stderr!r}")
     compare(plain, out, Exactly(plain.stderr), 1)
@@ -192,23 +194,31 @@ def ends(run):
     return 0
 
 
+def by_class(texts):
+    """How many messages there are by the class of their types."""
+    return collections.Counter(text[:2] for text in texts)
+
+
 def refusing(run):
     made = list(filter(threads.is_answered, requests.crowd(run.chosen, run.limit, 300)))
-    text = [messages.framed(it) for it in made]
-    pieces = [b"".join(text[at : at + FEW]) for at in range(0, len(text), FEW)]
+    give = run.input_of(made)
     # (units of 512 bytes: a new journal has 528 of them, and the log of changes begins anew after some 1,000)
     limited = ["sh", "-c", f"trap '' XFSZ; ulimit -f {run.chosen.randrange(540, 1000)}; exec \"$@\"", "sh"]
-    came = run.ran(lambda words: inputs.run_in_packets([*limited, *words], pieces, SECONDS, {}), *run.threads, "--trace")
+    came = run.ran(lambda words: give([*limited, *words]), *run.threads, "--trace")
     *lines, last = came.stderr.decode().split("\n")[:-1]
     wanted = f"cardswitch: {run.journal}: {texts.REFUSED}"
+    need(came.status == 3, f"status: wanted 3, came {came.status}")
     need(last == wanted, f"wanted that {wanted!r} is reported, came {last!r}")
-    answered = len(messages.frames(came.stdout))
-    need(answered % FEW == 0, f"{answered} responses are not those of whole batches")
-    its = threads.Run(Switch(run.flow, run.limit, run.sessions), made[:answered], threads.begins(made[:answered], map(len, pieces)))
+    offered = sum(line.startswith("offer ") for line in lines)
+    its = threads.Run(Switch(run.flow, run.limit, run.sessions), made[:offered])
     its.follow(lines)
-    compare(came, its.switch.responses(), Exactly(came.stderr), 3)
-    left = [number for number in journal.read(run.journal).tx if number <= answered]
-    need(not left, f"answered and unfinished: {left}")
+    first = its.switch.responses()
+    need(came.stdout.startswith(first), "the responses of whole legs do not come first")
+    later = made[offered:]
+    others = by_class(frame[4:] for frame in messages.frames(came.stdout[len(first) :]))
+    contexts = [row[-1] for row in journal.read(run.journal).tx.values()]
+    unfinished = by_class(next((it for it in later if it in context), b"") for context in contexts if context)
+    need(not others + unfinished - by_class(later), f"answered {others} and unfinished {unfinished} of {by_class(later)}")
     return its.most
 
 
@@ -219,7 +229,7 @@ def plans(count):
         yield from ((apart, *its), (crowd, *its))
     for number in range(count // 2):
         yield ends, 4, number // 2 % 2 == 1, WAYS[number % 2]
-    yield from [(refusing, 16, True, in_packets)] * 2
+    yield from [(refusing, 16, True, on_open_pipe)] * 2
     yield crush, 16, False, on_file
 
 

@@ -138,7 +138,7 @@ class Run:
         self.process.stdin.write(messages.framed(message))
 
     def send_batch(self, batch):
-        """Sends messages by one write: with threads they are a batch."""
+        """Sends messages by one write."""
         self.process.stdin.write(b"".join(map(messages.framed, batch)))
 
     def receive(self):

@@ -43,6 +43,20 @@ def run_on_pipe(words, pieces, seconds, how, flags=0):
             feeding.join()
 
 
+def run_on_open_pipe(words, text, seconds, how):
+    """Runs a command whose input comes at once, and is not closed before the command has ended."""
+    with tempfile.TemporaryFile() as out, tempfile.TemporaryFile() as told:
+        with subprocess.Popen(words, stdin=subprocess.PIPE, stdout=out, stderr=told, bufsize=0, **how) as process:
+            with contextlib.suppress(BrokenPipeError):
+                process.stdin.write(text)
+            try:
+                status = process.wait(seconds)
+            except subprocess.TimeoutExpired:
+                kill(process)
+                status = None
+        return *(file.seek(0) or file.read() for file in (out, told)), status
+
+
 def feed(to_write, pieces):
     # (once the program has read what it wanted, nobody takes the rest)
     with contextlib.suppress(BrokenPipeError), os.fdopen(to_write, "wb", buffering=0) as pipe:

@@ -86,6 +86,7 @@ RUN = {
     "log": (PATH, False, False),
     "sessions": (integers(1, 16), False, False),
     "threads": (FLAG, False, False),
+    "unordered": (FLAG, False, False),
 }
 
 

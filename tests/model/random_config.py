@@ -38,14 +38,22 @@ def route(random):
     return {"prefix": random.choice(PREFIXES), "group": random.choice(["alpha", "main", "g" * 32])}
 
 
+def run(random):
+    return {
+        "advices": random.choice([0, 1, 256]),
+        "sessions": random.randint(1, 16),
+        "threads": random.random() < 0.5,
+        "unordered": random.random() < 0.5,
+    }
+
+
 def document(random):
     """A document that is mostly right: two hosts may have the same name, and two routes the same prefix."""
     made = {
         "host": [host(random) for _ in range(random.choice([0, 1, 2, 3]))],
         "route": [route(random) for _ in range(random.choice([0, 1, 2, 3]))],
         "limits": some(random, {"per_card": random.choice([0, 10_000, 999_999_999_999_999]), "stand_in": random.choice([0, 999_999_999_999])}),
-        "run": some(random, {"advices": random.choice([0, 1, 256]), "sessions": random.randint(1, 16), "threads": random.random() < 0.5})
-        | {"allow": ALLOWED},
+        "run": some(random, run(random)) | {"allow": ALLOWED},
     }
     return {key: its for key, its in some(random, made).items() if key != "run"} | {"run": made["run"]}
 

@@ -14,8 +14,6 @@ from model.engine import Refused
 from model.law import unfinished
 from model.switch import Switch
 
-# What a run takes at once: at most this many messages, of one read of at most this many bytes.
-BATCH, READ = 256, 65_536
 PASSED = re.compile(r"cardswitch: message (\d+) is passed over: ")
 MOVES = re.compile(r"(?P<offer>offer) \d+|\d+ take (?P<session>\d+) .*|(?P<number>\d+) [PACU] .*")
 
@@ -34,18 +32,11 @@ def is_answered(message):
     return messages.is_message(message) and message[2] % 2 == 0
 
 
-def begins(made, reads):
-    """The numbers from 1 of the messages with which batches begin, if the reads give these numbers of bytes."""
-    ends = list(itertools.accumulate(len(messages.framed(it)) for it in made))
-    whole = [0, *(bisect.bisect_right(ends, came) for came in itertools.accumulate(reads))]
-    return [number + 1 for first, last in zip(whole, whole[1:]) for number in range(first, last, BATCH)]
-
-
 class Run:
-    """A run that is followed, with the messages that it got; `begins` is None if nobody knows how they came."""
+    """A run that is followed, with the messages that it got."""
 
-    def __init__(self, switch, made, begins=None):
-        self.switch, self.engine, self.made, self.begins = switch, switch.engine, made, begins
+    def __init__(self, switch, made):
+        self.switch, self.engine, self.made = switch, switch.engine, made
         self.numbers = [number for number, it in enumerate(made, 1) if messages.is_message(it)]
         self.passed = [number for number, it in enumerate(made, 1) if not messages.is_message(it)]
         self.offered = self.told = 0
@@ -55,36 +46,20 @@ class Run:
     def is_at_rest(self):
         return not any(self.engine.sessions) and not self.engine.queue
 
-    def batch_of(self, number):
-        """The batch of a message; the batches have to be known."""
-        return bisect.bisect_right(self.begins, number)
-
     def pass_over(self, number):
-        """A message that cannot be read is reported: its batch has not begun, and those before have ended."""
+        """A message that cannot be read is reported: the lines of its leg have not begun, and those of the legs before have ended."""
         need(self.passed[self.told : self.told + 1] == [number], "it is not the next one that cannot be read")
-        need(self.is_at_rest(), "it is reported within a batch")
+        need(self.is_at_rest(), "it is reported within a leg")
         self.told += 1
         need(self.offered <= bisect.bisect_left(self.numbers, number), "a later one is offered before")
-        if self.begins is not None:
-            ahead = sum(self.batch_of(it) < self.batch_of(number) for it in self.numbers)
-            need(self.offered == ahead, "it is reported with another batch than its own")
 
     def offer(self):
         need(self.offered < len(self.numbers), "more is offered than came")
         number = self.numbers[self.offered]
-        if self.begins is not None and self.offered:
-            is_first = self.batch_of(number) > self.batch_of(self.numbers[self.offered - 1])
-            need(self.is_at_rest() or not is_first, f"message {number} is offered before the batch ahead of its own has ended")
         self.offered += 1
         return self.switch.offer(self.made[number - 1])
 
-    def is_alone(self):
-        """Whether the request that was offered last came alone, as far as that is known. Session 0 serves it then."""
-        its = self.begins is not None and self.batch_of(self.numbers[self.offered - 1])
-        return its and sum(self.batch_of(number) == its for number in self.numbers) == 1
-
     def take(self, session):
-        need(session == 0 or not self.is_alone(), "a request that came alone is taken by a thread")
         line = self.engine.take(session)
         self.most = max(self.most, sum(its is not None for its in self.engine.sessions))
         return line
@@ -122,9 +97,9 @@ class Run:
         need(not law, law)
 
 
-def follow(flow, limit, sessions, made, begins, lines):
+def follow(flow, limit, sessions, made, lines):
     """Follows the lines of a run. Returns the switch at the end, and how many transactions were under way at once, at most."""
-    run = Run(Switch(flow, limit, sessions), made, begins)
+    run = Run(Switch(flow, limit, sessions), made)
     count = len(lines) - sum(1 for _ in itertools.takewhile(lambda line: line.startswith("ack "), reversed(lines)))
     run.follow(lines[:count])
     acks = run.switch.send_advices()

@@ -217,6 +217,7 @@ serve_error journal (serve.Truncated n) none h = tt
 serve_error journal (serve.LongResponse n) none h = tt
 serve_error journal (serve.Pool e) none h = tt
 serve_error journal (serve.Mismatch n) none h = tt
+serve_error journal serve.OtherResponses none h = tt
 serve_error journal serve.Endless none h = tt
 
 served_fault : (o : RunOptions) (c : Config) (before after : Option (List ℕ)) (e : RunError) → limit_of o c ≤ max_limit
@@ -262,6 +263,7 @@ error_in_file path before after (serve.Truncated n) h = tt
 error_in_file path before after (serve.LongResponse n) h = tt
 error_in_file path before after (serve.Pool e) h = tt
 error_in_file path before after (serve.Mismatch n) h = tt
+error_in_file path before after serve.OtherResponses h = tt
 error_in_file path before after serve.Endless h = tt
 
 fault_in_file : (path : List ℕ) (before after : Option (List ℕ)) (e : RunError) → IsServeFault e → IsFileFault path before after (error_at path e)

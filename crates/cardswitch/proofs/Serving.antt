@@ -1,22 +1,23 @@
 -- Runs that were served to their end.
 -- for: requests::run_over
-use Rattle.std.proofs.Common.{◌≡◌, ℕ, Bool, List, Option, Some, None, Ok, IfSome}
+use Rattle.std.proofs.Common.{◌≡◌, ℕ, List, Option, Some, None, Ok, IfSome}
 use Rattle.flow_model.specs.declared.flow.Flow.{Flow}
 use Rattle.sw_issuers.specs.Sending.{PlainSender}
 use Rattle.tx_plant.specs.Plant.{Seen}
+use Rattle.run_responses.specs.declared.sink.ResponseOrder.{ResponseOrder}
 use Rattle.run_switch.specs.Errors.{result_of}
 use Rattle.run_switch.specs.Ran.{Ran, all_lines}
 use Rattle.run_reports.specs.declared.Words.{Words}
 use Rattle.run_switch.specs.Shown.{TellsRun, unfinished_in}
-use Rattle.run_switch.specs.Traces.{Log, passed_over}
-use Rattle.run_switch.specs.Requests.{ReadTo, requests}
+use Rattle.run_switch.specs.Traces.{Log}
+use Rattle.run_input.specs.Requests.{ReadTo, passed_over, requests}
 use Rattle.run_switch.specs.Rounds.{Round, RoundsFor}
-use Rattle.run_switch.specs.declared.stream.StreamEnd.{StreamEnd}
-use Rattle.run_switch.specs.declared.stream.StreamEnd.TheVariants.{Whole, BadLength, Truncated, Unread}
+use Rattle.run_input.specs.declared.frames.StreamEnd.{StreamEnd}
+use Rattle.run_input.specs.declared.frames.StreamEnd.TheVariants.{Whole, BadLength, Truncated, Unread}
 use Rattle.cardswitch.specs.Runs.{Served, link_step}
 
 -- what a run has read, done and written, as `run_switch` has it
-abbrev RanTo : Bool → Flow → ℕ → Seen → PlainSender → ℕ → Option (List ℕ) → Option (List ℕ) → Option (List ℕ) → Option Words → Log → Log →
+abbrev RanTo : Option ResponseOrder → Flow → ℕ → Seen → PlainSender → ℕ → Option (List ℕ) → Option (List ℕ) → Option (List ℕ) → Option Words → Log → Log →
     StreamEnd → Type 0
 RanTo threads f n j sender most unread before after words k l end =
     (frames : List (List ℕ)) × ReadTo end unread frames × (rounds : List Round) × RoundsFor threads (requests frames) rounds
@@ -30,11 +31,11 @@ whole P (BadLength n) no_error h = cc
 whole P (Truncated k) no_error h = cc
 whole P (Unread e) no_error h = cc
 
-served_of : (threads : Bool) (f : Flow) (n : ℕ) (j : Seen) (sender : PlainSender) (most : ℕ) (unread before after : Option (List ℕ))
+served_of : (threads : Option ResponseOrder) (f : Flow) (n : ℕ) (j : Seen) (sender : PlainSender) (most : ℕ) (unread before after : Option (List ℕ))
     (words : Option Words) (k l : Log) → RanTo threads f n j sender most unread before after words k l Whole → Served threads f n j sender most unread before after
 served_of threads f n j sender most unread before after words k l h = record { frames = h.0; reads = h.1; rounds = h.2; answers = h.3; ran = h.4 }
 
-pub served : {R : Type 0} (threads : Bool) (f : Flow) (n : ℕ) (j : Seen) (sender : PlainSender) (most : ℕ) (remaining : R → Option (List ℕ))
+pub served : {R : Type 0} (threads : Option ResponseOrder) (f : Flow) (n : ℕ) (j : Seen) (sender : PlainSender) (most : ℕ) (remaining : R → Option (List ℕ))
     (before after : Option (List ℕ)) (words : Option Words) (k l : Log) (end : StreamEnd) (input : Option R)
     → Ok tt ≡ result_of end
     → IfSome input (λ reader. RanTo threads f n j sender most (remaining reader) before after words k l end)

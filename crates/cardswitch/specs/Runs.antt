@@ -16,13 +16,14 @@ use Rattle.cli_options.specs.declared.choice.TraceForm.{TraceForm}
 use Rattle.cli_options.specs.declared.choice.TraceForm.TheVariants as option
 use Rattle.cli_options.specs.declared.choice.StatsLines.{StatsLines}
 use Rattle.cli_options.specs.declared.choice.StatsLines.TheVariants.{AtEnd, Every, Off}
+use Rattle.run_responses.specs.declared.sink.ResponseOrder.{ResponseOrder}
 use Rattle.run_switch.specs.Advices.{AdviceStep}
 use Rattle.run_switch.specs.Ran.{Printed, Ran}
-use Rattle.run_switch.specs.Requests.{ReadTo, requests}
+use Rattle.run_input.specs.Requests.{ReadTo, requests}
 use Rattle.run_switch.specs.Rounds.{Round, RoundsFor}
 use Rattle.run_switch.specs.declared.reporter.LineForm.{LineForm}
 use Rattle.run_switch.specs.declared.reporter.LineForm.TheVariants as form
-use Rattle.run_switch.specs.declared.stream.StreamEnd.TheVariants.{Whole}
+use Rattle.run_input.specs.declared.frames.StreamEnd.TheVariants.{Whole}
 use Rattle.run_switch.specs.declared.error.ServeError.{ServeError}
 use Rattle.run_switch.specs.declared.error.ServeError.TheVariants as serve
 use Rattle.run_setup.specs.Plans.{PlainSetup, journal_of, limit_of, log_path_of, no_config, setup_of}
@@ -58,8 +59,8 @@ wanted Off = None
 wanted AtEnd = Some None
 wanted (Every n) = Some (Some n)
 
--- over this journal the requests of a whole input were answered, one after the other, or by threads in batches
-pub record Served (threads : Bool) (flow : Flow) (sessions : ℕ) (j : Seen) (sender : PlainSender) (advices : ℕ)
+-- over this journal the requests of a whole input were answered, one after the other, or by threads in legs
+pub record Served (threads : Option ResponseOrder) (flow : Flow) (sessions : ℕ) (j : Seen) (sender : PlainSender) (advices : ℕ)
     (unread before after : Option (List ℕ)) : Type 0 where
   pub frames : List (List ℕ)
   pub reads : ReadTo Whole unread frames

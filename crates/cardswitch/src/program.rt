@@ -40,7 +40,7 @@ use std::time::Clock;
 /// and sessions run as threads by the machine.
 pub fn run<
     T: Threads + Wait + Clock + Sync + Clone + Drop + Send + 'static,
-    R: Read + Drop,
+    R: Read + Drop + Send + 'static,
     O: Write,
     E: Write,
 >(machine: &Machine<'_, T>, options: &Options<'_>, input: R, out: &mut O, err: &mut E) -> u8
@@ -130,7 +130,7 @@ fn encode<R: Read + Drop, O: Write>(alloc: Global, input: R, out: &mut O) -> Res
 
 fn run_subcommand<
     T: Threads + Wait + Clock + Sync + Clone + Drop + Send + 'static,
-    R: Read + Drop,
+    R: Read + Drop + Send + 'static,
     O: Write,
     E: Write,
 >(

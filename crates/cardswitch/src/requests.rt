@@ -30,7 +30,7 @@ use flow_model::Flow;
 use journal_store::Journal;
 use run_reports::Words;
 use run_setup::{journal_path, log_path, recovery, setup, words_of};
-use run_switch::{Edge, LineForm, RecordLog, Reporter, Setup, Stats, SwitchLink, run};
+use run_switch::{Edge, LineForm, RecordLog, Reporter, Setup, Stats, SwitchLink, check_end, run};
 use sqlite::Alter;
 use sqlite_std_file::File;
 use sqlite_store::FileStore;
@@ -43,7 +43,13 @@ use std::time::Clock;
 use sw_participant::Text;
 
 // Runs over a journal. Then it is reported what has become new of the hosts, and their counts, if they are wanted.
-fn run_over<S: Alter + Drop, T: Threads + Wait + Clock + Sync, R: Read + Drop, O: Write, E: Write>(
+fn run_over<
+    S: Alter + Drop,
+    T: Threads + Wait + Clock + Sync + Clone + Drop + Send + 'static,
+    R: Read + Drop + Send + 'static,
+    O: Write,
+    E: Write,
+>(
     edge: &mut Edge<'_, T, E>,
     setup: Setup<SwitchLink>,
     code: &Code,
@@ -62,7 +68,7 @@ fn run_over<S: Alter + Drop, T: Threads + Wait + Clock + Sync, R: Read + Drop, O
     let ended = run(edge, code, journal, setup, input, out);
     edge.stderr.say_news();
     edge.stderr.say_counts();
-    Ok(ended?.into_result()?)
+    Ok(check_end(ended?)?)
 }
 
 // What became of a run over the journal in the file at a path: if the journal refused, or the engine over it, the
@@ -216,7 +222,7 @@ fn code_by(
 // Answers the requests of an input by a flow and a configuration. (Each is given as the result of reading its
 // file, so that contracts can say which file's fault is reported first.)
 fn answer_by<
-    R: Read + Drop,
+    R: Read + Drop + Send + 'static,
     O: Write,
     T: Threads + Wait + Clock + Sync + Clone + Drop + Send + 'static,
 >(
@@ -276,7 +282,7 @@ fn answer_by<
 /// Answers the requests of an input. The journal is in memory, or in the file that the options or the
 /// configuration name.
 pub fn answer_requests<
-    R: Read + Drop,
+    R: Read + Drop + Send + 'static,
     T: Threads + Wait + Clock + Sync + Clone + Drop + Send + 'static,
     O: Write,
 >(machine: &Machine<'_, T>, options: &RunOptions<'_>, input: R, out: &mut O) -> Result<(), RunError>
@@ -293,7 +299,7 @@ pub fn answer_requests<
 
 // Finishes what the journal in the file at a path has unfinished, by a flow and a configuration. (Both come as what
 // became of their files, so that contracts can say whose fault is the first.)
-fn recover_by<T: Threads + Wait + Clock + Sync, O: Write>(
+fn recover_by<T: Threads + Wait + Clock + Sync + Clone + Drop + Send + 'static, O: Write>(
     machine: &Machine<'_, T>,
     code: Result<Code, RunError>,
     config: Result<Config, RunError>,
@@ -332,7 +338,7 @@ fn recover_by<T: Threads + Wait + Clock + Sync, O: Write>(
 
 /// Finishes what the journal in a file has unfinished, and prints the lines of the history. A file that is not there is
 /// refused, and none is made.
-pub fn recover<T: Threads + Wait + Clock + Sync, O: Write>(
+pub fn recover<T: Threads + Wait + Clock + Sync + Clone + Drop + Send + 'static, O: Write>(
     machine: &Machine<'_, T>,
     options: &RecoverOptions<'_>,
     out: &mut O,

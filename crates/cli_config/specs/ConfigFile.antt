@@ -61,7 +61,7 @@ limits_in None = record { per_card = None; stand_in = None }
 limits_in (Some ms) = record { per_card = number_at key.PerCard ms; stand_in = number_at key.StandIn ms }
 
 abbrev pub run_in : Option Members → run.RunTable
-run_in None = record { advices = None; allow = None; sessions = None; journal = None; log = None; threads = None }
+run_in None = record { advices = None; allow = None; sessions = None; journal = None; log = None; threads = None; unordered = None }
 run_in (Some ms) = record {
   advices = number_at key.Advices ms;
   allow = names_at key.Allow ms;
@@ -69,6 +69,7 @@ run_in (Some ms) = record {
   journal = text_if key.Journal ms;
   log = text_if key.Log ms;
   threads = flag_at (spelling key.Threads) ms;
+  unordered = flag_at (spelling key.Unordered) ms;
 }
 
 abbrev pub limits_of : Members → limits.Limits

@@ -26,7 +26,7 @@ keys_of section.Top = key.Host ∷ key.Limits ∷ key.Route ∷ key.Run ∷ []
 keys_of section.Host = key.EchoS ∷ key.From ∷ key.InFlight ∷ key.Name ∷ key.RetryMs ∷ key.Simulated ∷ key.HasStandIn ∷ key.TimeoutMs ∷ key.To ∷ []
 keys_of section.Route = key.Group ∷ key.Prefix ∷ []
 keys_of section.Limits = key.PerCard ∷ key.StandIn ∷ []
-keys_of section.Run = key.Advices ∷ key.Allow ∷ key.Journal ∷ key.Log ∷ key.Sessions ∷ key.Threads ∷ []
+keys_of section.Run = key.Advices ∷ key.Allow ∷ key.Journal ∷ key.Log ∷ key.Sessions ∷ key.Threads ∷ key.Unordered ∷ []
 
 abbrev pub spelling : Key → List ℕ
 spelling key.Host = codes "host"
@@ -52,6 +52,7 @@ spelling key.Journal = codes "journal"
 spelling key.Log = codes "log"
 spelling key.Sessions = codes "sessions"
 spelling key.Threads = codes "threads"
+spelling key.Unordered = codes "unordered"
 
 -- amounts are in minor units, and the name of a host has room for `query_` before it
 abbrev pub wants : Key → Want
@@ -78,6 +79,7 @@ wants key.Journal = want.Path
 wants key.Log = want.Path
 wants key.Sessions = want.Number 1 16
 wants key.Threads = want.Flag
+wants key.Unordered = want.Flag
 
 -- a table must have the key, or else the key that it excludes
 abbrev pub is_required : Key → Bool

@@ -122,4 +122,6 @@ pub struct RunTable {
     pub log: Option<Text>,
     /// Whether the sessions run as threads.
     pub threads: Option<bool>,
+    /// Whether, with threads, each response leaves as its transaction ends, and not in the order of the requests.
+    pub unordered: Option<bool>,
 }

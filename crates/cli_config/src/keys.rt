@@ -56,6 +56,7 @@ pub enum Key {
     Log,
     Sessions,
     Threads,
+    Unordered,
 }
 
 /// What values a key may have.
@@ -134,6 +135,7 @@ impl Section {
                 Key::Log,
                 Key::Sessions,
                 Key::Threads,
+                Key::Unordered,
             ],
         }
     }
@@ -152,7 +154,7 @@ impl Key {
             Key::Prefix => Want::Digits(19),
             Key::From | Key::To | Key::Journal | Key::Log => Want::Path,
             Key::Simulated => Want::Simulation,
-            Key::HasStandIn | Key::Threads => Want::Flag,
+            Key::HasStandIn | Key::Threads | Key::Unordered => Want::Flag,
             Key::Allow => Want::Names(32),
             Key::TimeoutMs => Want::Number(1, 600_000),
             Key::RetryMs => Want::Number(0, 3_600_000),
@@ -217,6 +219,7 @@ impl AsStr for Key {
             Key::Log => "log",
             Key::Sessions => "sessions",
             Key::Threads => "threads",
+            Key::Unordered => "unordered",
         }
     }
 }

@@ -156,6 +156,7 @@ fn run_of(alloc: Global, top: &Table) -> Result<RunTable, AllocError>
             journal: text_if(alloc, table, Key::Journal)?,
             log: text_if(alloc, table, Key::Log)?,
             threads: flag_at(table, Key::Threads),
+            unordered: flag_at(table, Key::Unordered),
         }),
         None => Ok(RunTable {
             advices: None,
@@ -164,6 +165,7 @@ fn run_of(alloc: Global, top: &Table) -> Result<RunTable, AllocError>
             journal: None,
             log: None,
             threads: None,
+            unordered: None,
         }),
     }
 }

@@ -97,12 +97,13 @@ journal_app = with_rule (with_rule (with_rule (new_app (codes "journal")) (word_
 abbrev pub check_app : App
 check_app = with_rule (with_rule (new_app (codes "check")) (needed_rule (codes "flow"))) (option_rule (codes "config"))
 
--- `run --flow PATH [--config PATH] [--journal PATH] [--log PATH] [--sessions N] [--limit N] [--threads] [--trace[=FORM]] [--stats [N]]`
+-- `run --flow PATH [--config PATH] [--journal PATH] [--log PATH] [--sessions N] [--limit N] [--threads] [--unordered]
+-- [--trace[=FORM]] [--stats [N]]`
 abbrev pub run_app : App
-run_app = with_rule (with_rule (with_rule (with_rule (with_rule (with_rule
+run_app = with_rule (with_rule (with_rule (with_rule (with_rule (with_rule (with_rule
     (with_rule (with_rule (with_rule (new_app (codes "run")) (needed_rule (codes "flow"))) (option_rule (codes "config"))) (option_rule (codes "journal")))
-    (option_rule (codes "log"))) (option_rule (codes "sessions"))) (option_rule (codes "limit"))) (flag_rule (codes "threads"))) (optional_rule (codes "trace") (codes "text")))
-    (optional_rule (codes "stats") (codes "end"))
+    (option_rule (codes "log"))) (option_rule (codes "sessions"))) (option_rule (codes "limit"))) (flag_rule (codes "threads"))) (flag_rule (codes "unordered")))
+    (optional_rule (codes "trace") (codes "text"))) (optional_rule (codes "stats") (codes "end"))
 
 -- the program itself: it has a version, and wants a subcommand
 abbrev pub program_app : App
@@ -176,6 +177,7 @@ pub record AreRunOptions (rows : List Row) (o : RunOptions) : Type 0 where
   pub sessions : number_in (first_of (codes "sessions") rows) ≡ Some o.sessions
   pub limit : number_in (first_of (codes "limit") rows) ≡ Some o.limit
   pub threads : o.threads ≡ is_set (first_of (codes "threads") rows)
+  pub unordered : o.unordered ≡ is_set (first_of (codes "unordered") rows)
   pub trace : trace_in (first_of (codes "trace") rows) ≡ Some o.trace
   pub stats : stats_in (first_of (codes "stats") rows) ≡ Some o.stats
 

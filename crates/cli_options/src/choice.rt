@@ -113,6 +113,8 @@ pub struct RunOptions<'a> {
     pub limit: Option<u64>,
     /// Whether the sessions run as threads.
     pub threads: bool,
+    /// Whether, with threads, each response leaves as its transaction ends, and not in the order of the requests.
+    pub unordered: bool,
     /// In which form the trace is printed on standard error, if it is.
     pub trace: Option<TraceForm>,
     /// The lines of the run's numbers on standard error.

@@ -155,6 +155,7 @@ fn run_options<'a>(found: &ArgMatches<'a>) -> Result<RunOptions<'a>, OptionsErro
         sessions: number_in("sessions", text_at(found, "sessions"))?,
         limit: number_in("limit", text_at(found, "limit"))?,
         threads: is_set(text_at(found, "threads")),
+        unordered: is_set(text_at(found, "unordered")),
         trace: trace_in(text_at(found, "trace"))?,
         stats: stats_in(text_at(found, "stats"))?,
     })

@@ -205,6 +205,12 @@ const COMMANDS: [CommandRow<'static>; 10] = [
                 is_required: false,
             },
             OptionRow {
+                name: "unordered",
+                given: Given::Flag,
+                help: "With threads, writes each response as its transaction ends [default: in the order of the requests]",
+                is_required: false,
+            },
+            OptionRow {
                 name: "trace",
                 given: Given::Optional("FORM", "text"),
                 help: "Prints the trace on standard error, one line for each step; FORM is text or json [without FORM: text]",

@@ -10,12 +10,13 @@ use Rattle.tx_plant.specs.declared.turn.Turn.TheVariants as turn
 use Rattle.tx_plant.specs.Plant.{Seen, Whole}
 use Rattle.tx_plant.specs.Steps.{Moved}
 use Rattle.tx_seats.specs.Drives.{AllDriven, Drive, TookEnded}
+use Rattle.run_responses.specs.declared.sink.ResponseOrder.{ResponseOrder}
 use Rattle.run_switch.specs.Advices.{Acks, AdviceStep, PlainAdvisor, SendsAll, begun_advisor}
 use Rattle.run_switch.specs.Legs.{Advances, Leg, Legs, Stage, stage}
 use Rattle.run_switch.specs.Lines.{Line, lines_in}
 use Rattle.run_switch.specs.Points.{Point, all_answered, world_at}
 use Rattle.run_switch.specs.Ran.{Begins, Ran, ServesAll}
-use Rattle.run_switch.specs.Rounds.{Acts, Alone, Batched, Completed, Completes, Does, Goes, MayCut, Offered, Released, Round, Runs, RunsLone, Serves, Trimmed}
+use Rattle.run_switch.specs.Rounds.{Acts, Completed, Completes, Does, Goes, MayCut, Offered, Released, Round, Runs, Serves, Streamed, Trimmed}
 use Rattle.tx_seats.proofs.Drives.{all_driven_append}
 
 pub record Path (p q : Whole) : Type 0 where
@@ -59,16 +60,9 @@ completes_path : (p q : Point) (bytes : List ℕ) (lines : List Line) → Comple
 completes_path p q bytes lines c = path_then p.plant (all_answered c.ended).plant q.plant (given_path p c.ended (acts_path _ p c.ended c.transacts.acts))
     (cuts_path _ q lines c.cuts)
 
-runs_path : (xs : List Pairs) (p q : Point) (bytes : List ℕ) → Runs xs p bytes q → Path p.plant q.plant
-runs_path xs p q bytes runs = subst (λ (z : Point). Path p.plant z.plant) (sym runs.answered)
+runs_path : (order : ResponseOrder) (xs : List Pairs) (p q : Point) (bytes : List ℕ) → Runs order xs p bytes q → Path p.plant q.plant
+runs_path order xs p q bytes runs = subst (λ (z : Point). Path p.plant z.plant) (sym runs.answered)
     (given_path p runs.ended (acts_path _ p runs.ended runs.together.acts))
-
-lone_path : (x : Pairs) (p q : Point) (bytes : List ℕ) → RunsLone x p bytes q → Path p.plant q.plant
-lone_path x p q bytes runs =
-    let l = runs.lone in
-    subst (λ (z : Point). Path p.plant z.plant) (sym runs.answered) (given_path p runs.ended
-    (path_then p.plant l.offered.plant runs.ended.plant (does_path (turn.Offer x) l.outcome p l.offered l.offers)
-    (acts_path _ l.offered runs.ended l.transacts.acts)))
 
 goes_path : (rounds : List Round) (p q : Point) (bytes : List ℕ) (lines : List Line) → Goes rounds p bytes lines q → Path p.plant q.plant
 goes_path [] p q bytes lines (none, nothing, same) = path_none p.plant q.plant (ap (λ (z : Point). z.plant) same)
@@ -78,10 +72,8 @@ goes_path (Completed ∷ rs) p q bytes lines (w, first, later, cut, others, comp
     path_then p.plant w.plant q.plant (completes_path p w first cut completes) (goes_path rs w q later others more)
 goes_path (Released ∷ rs) p q bytes lines (o, w, does, more) =
     path_then p.plant w.plant q.plant (does_path turn.Release o p w does) (goes_path rs w q bytes lines more)
-goes_path (Batched xs ∷ rs) p q bytes lines (ready, w, first, later, runs, more, all) =
-    path_then p.plant w.plant q.plant (runs_path xs p w first runs) (goes_path rs w q later lines more)
-goes_path (Alone x ∷ rs) p q bytes lines (ready, w, first, later, runs, more, all) =
-    path_then p.plant w.plant q.plant (lone_path x p w first runs) (goes_path rs w q later lines more)
+goes_path (Streamed order xs ∷ rs) p q bytes lines (ready, w, first, later, runs, more, all) =
+    path_then p.plant w.plant q.plant (runs_path order xs p w first runs) (goes_path rs w q later lines more)
 goes_path (Trimmed ∷ rs) p q bytes lines (w, cut, others, cuts, more, these) =
     path_then p.plant w.plant q.plant (cuts_path p w cut cuts) (goes_path rs w q bytes others more)
 

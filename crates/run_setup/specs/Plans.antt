@@ -3,7 +3,7 @@
 -- `setup_of` is what a run is set up with, by its options and its configuration: book, routes,
 -- links, the stand-in's amount, advices between two reads, sessions, threads. `IsSetUp` says that
 -- a run is set up so, with a limit that a book may have.
-use Rattle.std.specs.Prelude.{◌≡◌, ◌<◌, ◌≤◌, ⊤, ℕ, Bool, true, false, ◌||◌, List, [], ◌∷◌, map, Option, None, is_some, unwrap_or, codes}
+use Rattle.std.specs.Prelude.{◌≡◌, ◌<◌, ◌≤◌, ⊤, ℕ, Bool, true, false, ◌||◌, List, [], ◌∷◌, map, Option, Some, None, is_some, unwrap_or, if◌then◌else◌, codes}
 use Rattle.std.specs.Option.{option_map_or, option_or}
 use Rattle.sw_parts.specs.Queries.{shown_query}
 use Rattle.sw_parts.specs.declared.route.Routing.{Routing}
@@ -14,6 +14,8 @@ use Rattle.cli_config.specs.declared.config.Route.{Route}
 use Rattle.cli_config.specs.declared.config.Wire.TheVariants.{Simulated}
 use Rattle.cli_options.specs.CommandLine.{text_of}
 use Rattle.cli_options.specs.declared.choice.RunOptions.{RunOptions}
+use Rattle.run_responses.specs.declared.sink.ResponseOrder.{ResponseOrder}
+use Rattle.run_responses.specs.declared.sink.ResponseOrder.TheVariants.{ByEnd, ById}
 use Rattle.sw_book.specs.Items.{PlainBook}
 use Rattle.sw_hosts.specs.declared.issuer_link.IssuerLink.{IssuerLink}
 use Rattle.run_switch.specs.Links.{switch_routes}
@@ -29,7 +31,7 @@ no_config = record {
   hosts = None;
   routes = None;
   limits = record { per_card = None; stand_in = None };
-  run = record { advices = None; allow = None; sessions = None; journal = None; log = None; threads = None };
+  run = record { advices = None; allow = None; sessions = None; journal = None; log = None; threads = None; unordered = None };
 }
 
 -- what a card may spend, 10,000 minor units where nothing states it
@@ -54,8 +56,20 @@ abbrev pub advices_of : Config → ℕ
 advices_of c = unwrap_or c.run.advices 0
 
 -- whether the sessions run as threads
-abbrev pub threads_of : RunOptions → Config → Bool
-threads_of o c = o.threads || unwrap_or c.run.threads false
+abbrev pub has_threads : RunOptions → Config → Bool
+has_threads o c = o.threads || unwrap_or c.run.threads false
+
+-- whether their responses leave as the transactions end
+abbrev pub is_unordered : RunOptions → Config → Bool
+is_unordered o c = o.unordered || unwrap_or c.run.unordered false
+
+-- the order in which they leave
+abbrev pub order_of : RunOptions → Config → ResponseOrder
+order_of o c = if is_unordered o c then ByEnd else ById
+
+-- whether the sessions run as threads, and then in which order their responses leave
+abbrev pub threads_of : RunOptions → Config → Option ResponseOrder
+threads_of o c = if has_threads o c then Some (order_of o c) else None
 
 -- the path of the journal, if it is in a file
 abbrev pub journal_of : RunOptions → Config → Option (List ℕ)
@@ -97,7 +111,7 @@ pub record PlainSetup : Type 0 where
   pub advised : LinkStates
   pub advices : ℕ
   pub sessions : ℕ
-  pub threads : Bool
+  pub threads : Option ResponseOrder
   -- whether it is noted how long an issuer took
   pub timed : Bool
 
@@ -148,7 +162,7 @@ recovery_of c = record {
   advised = [];
   advices = 0;
   sessions = 1;
-  threads = false;
+  threads = None;
   timed = false;
 }
 

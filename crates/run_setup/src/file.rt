@@ -30,6 +30,7 @@ fn no_config() -> Config
             journal: None,
             log: None,
             threads: None,
+            unordered: None,
         },
     }
 }

@@ -4,13 +4,15 @@ ghost use Rattle.std.specs.Prelude.{◌≡◌, ◌<◌, ◌≤◌, [], Err, IfEr
 ghost use Rattle.run_switch.specs.Links.{switch_routes};
 ghost use Rattle.sw_book.specs.Most.{max_limit};
 ghost use Rattle.run_setup.specs.Plans.{IsLimitFault, IsSetUp, advices_of, journal_of, log_path_of, limit_of};
-ghost use Rattle.run_setup.specs.Plans.{plain_setup, recovery_of, sessions_of, stand_in_of, threads_of};
+ghost use Rattle.run_setup.specs.Plans.{order_of, plain_setup, recovery_of, sessions_of, stand_in_of};
+ghost use Rattle.run_setup.specs.Plans.{threads_of};
 ghost use Rattle.run_setup.specs.declared.error.SetupError.TheVariants.{BadLimit, OutOfMemory};
 
 use crate::error::SetupError;
 use crate::links::{Links, links_to_hosts, routes, unasked};
 use cli_config::Config;
 use cli_options::choice::RunOptions;
+use run_responses::ResponseOrder;
 use run_switch::{DEFAULT_STAND_IN, Setup, SwitchLink, default_routes};
 use std::alloc::{AllocError, Global};
 use std::sync::Wait;
@@ -92,10 +94,25 @@ fn advices(config: &Config) -> u64
     config.run.advices.unwrap_or(0)
 }
 
-fn threads(options: &RunOptions<'_>, config: &Config) -> bool
+// The order in which the responses of threads leave.
+fn order(options: &RunOptions<'_>, config: &Config) -> ResponseOrder
+    ensures { result ≡ order_of options.now config.now }
+{
+    if options.unordered || config.run.unordered.unwrap_or(false) {
+        ResponseOrder::ByEnd
+    } else {
+        ResponseOrder::ById
+    }
+}
+
+fn threads(options: &RunOptions<'_>, config: &Config) -> Option<ResponseOrder>
     ensures { result ≡ threads_of options.now config.now }
 {
-    options.threads || config.run.threads.unwrap_or(false)
+    if options.threads || config.run.threads.unwrap_or(false) {
+        Some(order(options, config))
+    } else {
+        None
+    }
 }
 
 fn stand_in(config: &Config) -> u64
@@ -178,7 +195,7 @@ pub fn recovery(alloc: Global, config: &Config) -> Result<Setup<SwitchLink>, Set
         advised: Vec::new(alloc),
         advices: 0,
         sessions: 1,
-        threads: false,
+        threads: None,
         timed: None,
     })
 }

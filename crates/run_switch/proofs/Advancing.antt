@@ -1,21 +1,25 @@
 -- Requests answered with advices sent between them.
--- for: stream::Requests::answer_input, batches::Requests::answer_in_batches, advices::send_between
-use Rattle.std.proofs.Common.{◌≡◌, ℕ, ◌+◌, Bool, false, List, [], ◌∷◌, ◌++◌, length, Option, refl, sym, ap, subst, ◌∙◌, append_assoc, append-nil}
+-- for: stream::answer_input, streaming::answer_stream, advices::send_between
+use Rattle.std.proofs.Common.{◌≡◌, ℕ, ◌+◌, false, List, [], ◌∷◌, ◌++◌, length, Option, Some, refl, sym, ap, subst, ◌∙◌, append_assoc, append-nil}
 use Rattle.sw_context.specs.Pairs.{Pairs}
 use Rattle.sw_frame.specs.Stream.{State, blank}
+use Rattle.run_responses.specs.declared.sink.ResponseOrder.{ResponseOrder}
 use Rattle.run_switch.specs.Advices.{AdviceStep, Between, PlainAdvisor, SendsAll, SendsBetween, due_between}
-use Rattle.run_switch.specs.Legs.{Advances, AdvancesFor, Leg, Legs, Stage, lines_of, rounds_in, stage}
+use Rattle.run_switch.specs.Legs.{Advances, AdvancesBy, AdvancesFor, AdvancesWith, Leg, Legs, Stage, lines_of, rounds_in, stage}
 use Rattle.run_switch.specs.Lines.{Line}
 use Rattle.run_switch.specs.Points.{Point, is_long, world_at}
-use Rattle.run_switch.specs.Requests.{Reads, requests}
-use Rattle.run_switch.specs.Rounds.{Round, RoundsFor, Serves}
-use Rattle.run_switch.specs.Stopped.{HaltsOn, StopsWithin}
-use Rattle.run_switch.specs.Traces.{Cuts, Log, ReportsFor, Tells, passed_over}
-use Rattle.run_switch.proofs.Readings.{nothing_read, requests_append}
+use Rattle.run_input.specs.Requests.{Reads, passed_over, requests}
+use Rattle.run_switch.specs.Rounds.{Round, Serves}
+use Rattle.run_switch.specs.Stopped.{HaltsHeard, HaltsOn, StopsWithin}
+use Rattle.run_switch.specs.Traces.{Answered, Cuts, Log, ReportsWith, Tells}
+use Rattle.run_input.specs.declared.arrival.Arrival.{Arrival}
+use Rattle.run_input.specs.declared.frames.StreamEnd.{StreamEnd}
+use Rattle.run_input.specs.Arrivals.{Heard, HeardAll, passed_of, requests_of}
+use Rattle.run_input.proofs.Readings.{nothing_read, passed_over_append, requests_append}
 use Rattle.run_switch.proofs.Resting.{may_keep}
 use Rattle.run_switch.proofs.Rounds.{serves_none, serves_then}
 use Rattle.run_switch.proofs.Stops.{rounds_append, rounds_none, toward_none}
-use Rattle.run_switch.proofs.Tracing.{lines_then, passed_over_append, tells_none, tells_then}
+use Rattle.run_switch.proofs.Tracing.{lines_then, tells_none, tells_then}
 
 -- legs
 
@@ -83,41 +87,63 @@ advances_sends step rs x y lines t q a b = record {
   advisor = refl;
 }
 
--- of the messages of frames
+-- of requests, and of messages that are passed over
 
-pub advanced_none : (step : AdviceStep) (threads : Bool) (x : Stage) (l : Log) → AdvancesFor step threads [] x l x l
+pub advanced_none : (step : AdviceStep) (threads : Option ResponseOrder) (x : Stage) (l : Log) → AdvancesWith step threads [] 0 x l x l
 advanced_none step threads x l = record { rounds = []; answers = rounds_none threads; advances = advances_none step x; tells = tells_none l }
 
-pub advanced_then : (step : AdviceStep) (threads : Bool) (frames more : List (List ℕ)) (x y : Stage) (q : Point) (c : Option (List ℕ)) (k l m : Log) →
-    AdvancesFor step threads frames x k y l → ReportsFor threads more y.point y.out l q c m →
-    AdvancesFor step threads (frames ++ more) x k (stage y.advisor q c) m
-advanced_then step threads frames more x y q c k l m a r = record {
+pub advanced_then : (step : AdviceStep) (threads : Option ResponseOrder) (xs ys : List Pairs) (i j : ℕ) (x y : Stage) (q : Point) (c : Option (List ℕ))
+    (k l m : Log) → AdvancesWith step threads xs i x k y l → ReportsWith threads ys j y.point y.out l q c m →
+    AdvancesWith step threads (xs ++ ys) (i + j) x k (stage y.advisor q c) m
+advanced_then step threads xs ys i j x y q c k l m a r = record {
   rounds = a.rounds ++ r.rounds;
-  answers = subst (λ (xs : List Pairs). RoundsFor threads xs (a.rounds ++ r.rounds)) (sym (requests_append frames more))
-      (rounds_append threads (requests frames) (requests more) a.rounds r.rounds a.answers r.answers);
+  answers = rounds_append threads xs ys a.rounds r.rounds a.answers r.answers;
   advances = advances_serves step a.rounds r.rounds x y q c a.advances r.reports.serves;
-  tells = (let both : Tells ((a.advances.lines ++ a.advances.serves.lines) ++ r.reports.serves.lines) (passed_over frames + passed_over more) k m =
-      tells_then (lines_of a.advances) r.reports.serves.lines (passed_over frames) (passed_over more) k l m a.tells r.reports.tells in
-      subst (λ (n : ℕ). Tells (a.advances.lines ++ (a.advances.serves.lines ++ r.reports.serves.lines)) n k m) (sym (passed_over_append frames more))
-      (subst (λ (ls : List Line). Tells ls (passed_over frames + passed_over more) k m)
-      (append_assoc a.advances.lines a.advances.serves.lines r.reports.serves.lines) both));
+  tells = (let both : Tells ((a.advances.lines ++ a.advances.serves.lines) ++ r.reports.serves.lines) (i + j) k m =
+      tells_then (lines_of a.advances) r.reports.serves.lines i j k l m a.tells r.reports.tells in
+      subst (λ (ls : List Line). Tells ls (i + j) k m) (append_assoc a.advances.lines a.advances.serves.lines r.reports.serves.lines) both);
 }
 
-pub advanced_sends : (step : AdviceStep) (threads : Bool) (frames : List (List ℕ)) (x y : Stage) (t : PlainAdvisor) (q : Point) (k l m : Log) →
-    AdvancesFor step threads frames x k y l → SendsBetween step y.advisor y.point l t q m → AdvancesFor step threads frames x k (stage t q y.out) m
-advanced_sends step threads frames x y t q k l m a b = record {
+pub advanced_sends : (step : AdviceStep) (threads : Option ResponseOrder) (xs : List Pairs) (i : ℕ) (x y : Stage) (t : PlainAdvisor) (q : Point) (k l m : Log)
+    → AdvancesWith step threads xs i x k y l → SendsBetween step y.advisor y.point l t q m → AdvancesWith step threads xs i x k (stage t q y.out) m
+advanced_sends step threads xs i x y t q k l m a b = record {
   rounds = a.rounds;
   answers = a.answers;
   advances = advances_sends step a.rounds x y b.lines t q a.advances b.between;
-  tells = (let both : Tells ((a.advances.lines ++ a.advances.serves.lines) ++ b.lines) (passed_over frames) k m =
-      lines_then (lines_of a.advances) b.lines (passed_over frames) k l m a.tells b.tells in
-      subst (λ (ls : List Line). Tells ls (passed_over frames) k m) (append_assoc a.advances.lines a.advances.serves.lines b.lines
+  tells = (let both : Tells ((a.advances.lines ++ a.advances.serves.lines) ++ b.lines) i k m =
+      lines_then (lines_of a.advances) b.lines i k l m a.tells b.tells in
+      subst (λ (ls : List Line). Tells ls i k m) (append_assoc a.advances.lines a.advances.serves.lines b.lines
       ∙ sym (append-nil (a.advances.lines ++ (a.advances.serves.lines ++ b.lines)))) both);
 }
 
+-- the messages of further frames
+pub advanced_frames : (step : AdviceStep) (threads : Option ResponseOrder) (frames more : List (List ℕ)) (x y : Stage) (q : Point) (c : Option (List ℕ))
+    (k l m : Log) → AdvancesFor step threads frames x k y l → ReportsWith threads (requests more) (passed_over more) y.point y.out l q c m →
+    AdvancesFor step threads (frames ++ more) x k (stage y.advisor q c) m
+advanced_frames step threads frames more x y q c k l m a r =
+    let all = advanced_then step threads (requests frames) (requests more) (passed_over frames) (passed_over more) x y q c k l m a r in
+    subst (λ (n : ℕ). AdvancesWith step threads (requests (frames ++ more)) n x k (stage y.advisor q c) m) (sym (passed_over_append frames more))
+    (subst (λ (xs : List Pairs). AdvancesWith step threads xs (passed_over frames + passed_over more) x k (stage y.advisor q c) m)
+    (sym (requests_append frames more)) all)
+
+-- what came in a further leg
+pub advanced_leg : (step : AdviceStep) (order : ResponseOrder) (got then : List Arrival) (x y : Stage) (q : Point) (c : Option (List ℕ)) (k l m : Log)
+    → AdvancesBy step order got x k y l → Answered order got y.point y.out l then q c m → AdvancesBy step order then x k (stage y.advisor q c) m
+advanced_leg step order got then x y q c k l m a s =
+    let all = advanced_then step (Some order) (requests_of got) s.requests (passed_of got) s.passed x y q c k l m a s.reports in
+    subst (λ (n : ℕ). AdvancesWith step (Some order) (requests_of then) n x k (stage y.advisor q c) m) (sym s.passed_are)
+    (subst (λ (xs : List Pairs). AdvancesWith step (Some order) xs (passed_of got + s.passed) x k (stage y.advisor q c) m) (sym s.requests_are) all)
+
+-- all that came of an input, which was read to its end
+pub advanced_all : (step : AdviceStep) (order : ResponseOrder) (input : Option (List ℕ)) (end : StreamEnd) (got : List Arrival) (x y : Stage) (k l : Log)
+    → (h : HeardAll input end got) → AdvancesBy step order got x k y l → AdvancesFor step (Some order) h.frames x k y l
+advanced_all step order input end got x y k l h a =
+    subst (λ (n : ℕ). AdvancesWith step (Some order) (requests h.frames) n x k y l) (sym h.passed_are)
+    (subst (λ (xs : List Pairs). AdvancesWith step (Some order) xs (passed_of got) x k y l) (sym h.requests_are) a)
+
 -- up to an error
 
-pub stops_fresh : (step : AdviceStep) (threads : Bool) (input : Option (List ℕ)) (s : State) (x : Stage) → s ≡ blank → StopsWithin step threads input x x.out
+pub stops_fresh : (step : AdviceStep) (threads : Option ResponseOrder) (input : Option (List ℕ)) (s : State) (x : Stage) → s ≡ blank → StopsWithin step threads input x x.out
 stops_fresh step threads input s x fresh = record {
   frames = [];
   begins = record { left = input; state = s; reads = nothing_read input s fresh };
@@ -133,7 +159,7 @@ stops_fresh step threads input s x fresh = record {
   };
 }
 
-pub stops_on : (step : AdviceStep) (threads : Bool) (input left : Option (List ℕ)) (frames : List (List ℕ)) (s : State) (x y : Stage) (k l : Log)
+pub stops_on : (step : AdviceStep) (threads : Option ResponseOrder) (input left : Option (List ℕ)) (frames : List (List ℕ)) (s : State) (x y : Stage) (k l : Log)
     (c : Option (List ℕ)) → Reads input left frames s → AdvancesFor step threads frames x k y l → HaltsOn threads left s y.point y.out c →
     StopsWithin step threads input x c
 stops_on step threads input left frames s x y k l c reads a on =
@@ -152,6 +178,35 @@ stops_on step threads input left frames s x y k l c reads a on =
         halts = halts;
       };
     }
+
+-- of what came of an input, and of what may come next
+pub stops_by : (step : AdviceStep) (order : ResponseOrder) (input : Option (List ℕ)) (got : List Arrival) (x y : Stage) (k l : Log) (c : Option (List ℕ))
+    → AdvancesBy step order got x k y l → HaltsHeard order input got y.point y.out c → StopsWithin step (Some order) input x c
+stops_by step order input got x y k l c a h = record {
+  frames = h.frames;
+  begins = h.begins;
+  halts = record {
+    first = requests_of got;
+    later = h.later;
+    order = h.requests_are;
+    rounds = a.rounds;
+    answers = a.answers;
+    reached = y;
+    advances = a.advances;
+    halts = h.halts;
+  };
+}
+
+-- nothing came after it
+pub stops_heard : (step : AdviceStep) (order : ResponseOrder) (input : Option (List ℕ)) (got : List Arrival) (x y : Stage) (k l : Log)
+    → AdvancesBy step order got x k y l → Heard input got → StopsWithin step (Some order) input x y.out
+stops_heard step order input got x y k l a h = stops_by step order input got x y k l y.out a (record {
+  frames = h.frames;
+  begins = h.begins;
+  later = h.later;
+  requests_are = h.requests_are;
+  halts = toward_none (Some order) h.later y.point y.out;
+})
 
 -- advices between two reads
 

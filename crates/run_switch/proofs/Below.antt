@@ -1,5 +1,5 @@
 -- The ids of the transactions that ended are below the next id, whatever turns are done.
--- for: batches::Switch::answer_batch
+-- for: leg::answer_leg
 use Rattle.std.proofs.Common.{◌≡◌, ◌<◌, ◌≤◌, ℕ, ◌+◌, inl, inr, List, [], ◌∷◌, Option, Some, None, Result, Ok, Err, refl, sym, ap, subst, arith, ◌∙◌}
 use Rattle.std.specs.declared.alloc.AllocError.{AllocError}
 use Rattle.sw_context.specs.Pairs.{Pairs}

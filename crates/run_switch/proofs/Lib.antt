@@ -1,4 +1,3 @@
-mod Ended
 mod Doings
 mod SessionSteps
 mod Transactions
@@ -11,12 +10,12 @@ mod Sendings
 mod Printing
 mod WithRecords
 mod Runs
-mod Readings
 mod Stops
 mod Halted
 mod Below
 mod Reporting
-mod Batched
+mod LegRounds
+mod Leading
 mod Shown
 mod Sayings
 mod Counting

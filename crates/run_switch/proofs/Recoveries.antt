@@ -41,10 +41,10 @@ use Rattle.tx_plant.specs.Steps.{Moved, event_of}
 use Rattle.tx_seats.specs.Drives.{Done, IsMade}
 use Rattle.tx_seats.specs.Seated.{Seated, seat_id}
 use Rattle.run_switch.specs.declared.progress.Progress.{Progress}
-use Rattle.run_switch.specs.Points.{above}
+use Rattle.run_responses.specs.Responses.{above}
 use Rattle.run_switch.specs.Rounds.{Acts, Recovers}
 use Rattle.run_switch.proofs.Doings.{Marked, acts_once, acts_then, marked}
-use Rattle.run_switch.proofs.Ended.{not_above}
+use Rattle.run_responses.proofs.Ended.{not_above}
 use Rattle.run_switch.proofs.SessionSteps.{Adds, Enters, gives_by, steps_of}
 use Rattle.tx_plant.proofs.Outcomes.{stepped_as}
 

@@ -1,36 +1,22 @@
 -- The messages of frames that were answered, or passed over.
--- for: stream::answer_messages, stream::Requests, batches::Requests, batches::answer_batches
-use Rattle.std.proofs.Common.{◌≡◌, ◌<◌, ℕ, ◌+◌, Bool, false, List, [], ◌++◌, length, map, take, get_or, Option, sym, subst}
+-- for: stream::answer_messages, stream::answer_input
+use Rattle.std.proofs.Common.{◌≡◌, ◌<◌, ℕ, ◌+◌, List, [], ◌∷◌, ◌++◌, length, map, take, get_or, Option, None, ap, sym, subst, ◌∙◌}
 use Rattle.std.specs.Global.{Vec}
 use Rattle.sw_context.specs.Pairs.{Pairs}
 use Rattle.sw_frame.specs.Feeds.{messages}
 use Rattle.iso_codec.specs.Reads.{read}
+use Rattle.run_input.specs.declared.arrival.Arrival.{Arrival}
+use Rattle.run_input.specs.declared.arrival.Arrival.TheVariants.{Request}
+use Rattle.run_input.specs.Arrivals.{IsArrivalOf, passed_of}
 use Rattle.run_switch.specs.Points.{Point}
-use Rattle.run_switch.specs.Requests.{if_read, request_of, requests}
-use Rattle.run_switch.specs.Rounds.{Round, RoundsFor, ServesFor, answering}
+use Rattle.run_input.specs.Requests.{if_passed, if_read, passed_over, request_of, requests}
+use Rattle.run_switch.specs.Rounds.{Round, answering}
 use Rattle.run_switch.specs.Stopped.{Halts}
-use Rattle.run_switch.specs.Traces.{Log, Reports, ReportsFor, Tells, if_passed, passed_over}
-use Rattle.run_switch.proofs.Readings.{requests_append, requests_next}
-use Rattle.run_switch.proofs.Rounds.{answering_append, reports_both, reports_none, reports_passed}
-use Rattle.run_switch.proofs.Stops.{rounds_append, rounds_none, untrimmed_answering}
-use Rattle.run_switch.proofs.Tracing.{passed_over_append, passed_over_next}
-
-pub for_none : (threads : Bool) (p : Point) (a : Option (List ℕ)) (l : Log) → ReportsFor threads [] p a l p a l
-for_none threads p a l = record { rounds = []; answers = rounds_none threads; reports = reports_none p a l }
-
-pub for_then : (threads : Bool) (frames more : List (List ℕ)) (p q r : Point) (a b c : Option (List ℕ)) (k l m : Log) →
-    ReportsFor threads frames p a k q b l → ReportsFor threads more q b l r c m → ReportsFor threads (frames ++ more) p a k r c m
-for_then threads frames more p q r a b c k l m s t = record {
-  rounds = s.rounds ++ t.rounds;
-  answers = subst (λ (xs : List Pairs). RoundsFor threads xs (s.rounds ++ t.rounds)) (sym (requests_append frames more))
-      (rounds_append threads (requests frames) (requests more) s.rounds t.rounds s.answers t.answers);
-  reports = reports_both s.rounds t.rounds (passed_over frames) (passed_over more) (passed_over (frames ++ more)) p q r a b c k l m
-      (passed_over_append frames more) s.reports t.reports;
-}
-
-pub for_serves : (threads : Bool) (frames : List (List ℕ)) (p q : Point) (a b : Option (List ℕ)) (k l : Log) → ReportsFor threads frames p a k q b l →
-    ServesFor threads (requests frames) p a q b
-for_serves threads frames p q a b k l s = (s.rounds, s.answers, s.reports.serves)
+use Rattle.run_switch.specs.Traces.{Log, Reports, ReportsWith, Tells}
+use Rattle.run_input.proofs.Readings.{passed_over_next, requests_next}
+use Rattle.run_switch.proofs.Rounds.{answering_append, reports_both, reports_passed}
+use Rattle.run_switch.proofs.Stops.{untrimmed_answering}
+use Rattle.run_switch.proofs.Tracing.{tells_none}
 
 -- one more message
 pub message_more : (list : List (Vec ℕ)) (i : ℕ) (m : Vec ℕ) (bytes : List ℕ) (p q r : Point) (a b c : Option (List ℕ)) (x y z : Log) → i < length list →
@@ -51,7 +37,7 @@ message_more list i m bytes p q r a b c x y z lt at is s t =
 
 -- those of a piece
 pub for_answered : (frames : List (List ℕ)) (p q : Point) (a b : Option (List ℕ)) (k l : Log) →
-    Reports (answering (requests frames)) (passed_over frames) p a k q b l → ReportsFor false frames p a k q b l
+    Reports (answering (requests frames)) (passed_over frames) p a k q b l → ReportsWith None (requests frames) (passed_over frames) p a k q b l
 for_answered frames p q a b k l s =
     record { rounds = answering (requests frames); answers = untrimmed_answering (requests frames); reports = s }
 
@@ -64,3 +50,8 @@ served_message xs ys n p q a b k l o is passed s =
 -- up to an error
 pub halted_message : (xs ys : List Pairs) (p : Point) (a b : Option (List ℕ)) → ys ≡ xs → Halts (answering ys) p a b → Halts (answering xs) p a b
 halted_message xs ys p a b is h = subst (λ (zs : List Pairs). Halts (answering zs) p a b) is h
+
+-- a message that is a request
+pub requested : (x : Pairs) (bytes : List ℕ) (a : Arrival) (l : Log) → a ≡ Request x → IsArrivalOf bytes a → Tells [] (if_passed (read bytes)) l l
+requested x bytes a l is h =
+    subst (λ (n : ℕ). Tells [] n l l) (ap (λ (b : Arrival). passed_of (b ∷ [])) (sym is) ∙ h.passed) (tells_none l)

@@ -24,7 +24,8 @@ use Rattle.tx_plant.specs.Core.{Core, seat_of}
 use Rattle.tx_plant.specs.Turns.{Cuts, Logs}
 use Rattle.tx_seats.specs.Seated.{Seated, seat_id}
 use Rattle.run_switch.specs.declared.progress.Progress.{Progress}
-use Rattle.run_switch.specs.Points.{IsAllWritten, IsAtRest, IsReady, Point, above, ended_at, is_long, next_at, world_at}
+use Rattle.run_switch.specs.Points.{IsAllWritten, IsAtRest, IsReady, Point, ended_at, is_long, next_at, world_at}
+use Rattle.run_responses.specs.Responses.{above}
 use Rattle.run_switch.specs.Lines.{Line, lines_in}
 use Rattle.run_switch.specs.Advices.{one_delivered}
 use Rattle.run_switch.specs.Rounds.{Does, IsDone, IsEmptied, MayCut}

@@ -23,14 +23,15 @@ use Rattle.tx_plant.specs.declared.turn.Turn.TheVariants as turn
 use Rattle.tx_seats.specs.Seated.{Seated}
 use Rattle.sw_stats.specs.Tallies.{Tally, tallied}
 use Rattle.run_switch.specs.declared.progress.Progress.{Progress}
-use Rattle.run_switch.specs.Points.{IsAtRest, IsReady, Point, RestsGiven, above, all_answered, ended_at, last_id, next_at, response_of, responses, unanswered}
+use Rattle.run_switch.specs.Points.{IsAtRest, IsReady, Point, RestsGiven, all_answered, ended_at, next_at, response_of, unanswered}
+use Rattle.run_responses.specs.Responses.{above, last_id, responses}
 use Rattle.run_switch.specs.Points.{with_ended, world_at}
 use Rattle.run_switch.specs.Lines.{Line}
-use Rattle.run_switch.specs.Rounds.{Alone, Batched, Completed, Completes, Does, Goes, IsEmptied, IsRetry, MayCut, Offered, Released, Round, Serves, Transacts}
+use Rattle.run_switch.specs.Rounds.{Completed, Completes, Does, Goes, IsEmptied, IsRetry, MayCut, Offered, Released, Round, Serves, Streamed, Transacts}
 use Rattle.run_switch.specs.Rounds.{Trimmed, answering}
 use Rattle.run_switch.specs.Traces.{Cuts, DrainsAll, IsLive, Log, Reports, Tells}
 use Rattle.tx_engine.specs.World.{World}
-use Rattle.run_switch.proofs.Ended.{is_above}
+use Rattle.run_responses.proofs.Ended.{is_above}
 use Rattle.run_switch.proofs.Tracing.{passed_then, tells_none, tells_then}
 use Rattle.run_switch.proofs.Resting.{at_rest_recovered, cuts_waits, offered_one}
 
@@ -54,9 +55,7 @@ goes_append (Completed ∷ ds) bs p q r xs ys ls ms (w, first, later, cut, other
 )
 goes_append (Released ∷ ds) bs p q r xs ys ls ms (o, w, does, more) h =
     (o, w, does, goes_append ds bs w q r xs ys ls ms more h)
-goes_append (Batched rs ∷ ds) bs p q r xs ys ls ms (ready, w, first, later, runs, more, all) h =
-    (ready, w, first, later ++ ys, runs, goes_append ds bs w q r later ys ls ms more h, ap (λ (l : List ℕ). l ++ ys) all ∙ append_assoc first later ys)
-goes_append (Alone x ∷ ds) bs p q r xs ys ls ms (ready, w, first, later, runs, more, all) h =
+goes_append (Streamed order rs ∷ ds) bs p q r xs ys ls ms (ready, w, first, later, runs, more, all) h =
     (ready, w, first, later ++ ys, runs, goes_append ds bs w q r later ys ls ms more h, ap (λ (l : List ℕ). l ++ ys) all ∙ append_assoc first later ys)
 goes_append (Trimmed ∷ ds) bs p q r xs ys ls ms (w, cut, others, cuts, more, these) h =
     (w, cut, others ++ ms, cuts, goes_append ds bs w q r xs ys others ms more h, ap (λ (l : List Line). l ++ ms) these ∙ append_assoc cut others ms)

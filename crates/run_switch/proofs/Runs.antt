@@ -1,10 +1,11 @@
 -- A whole run, from its parts.
 -- for: serving::Over, serving::Begun, serving::Switch, serving::run
-use Rattle.std.proofs.Common.{◌≡◌, ℕ, ◌-◌, Bool, List, ◌++◌, Option, Result, Ok, Err, ap, refl, sym, subst, ◌∙◌}
+use Rattle.std.proofs.Common.{◌≡◌, ℕ, ◌-◌, List, ◌++◌, Option, Result, Ok, Err, ap, refl, sym, subst, ◌∙◌}
 use Rattle.std.specs.Prelude.{IfOk, OnOk}
 use Rattle.std.specs.Io.KnownBytes.{Appends}
 use Rattle.flow_model.specs.declared.flow.Flow.{Flow}
 use Rattle.sw_issuers.specs.Sending.{PlainSender}
+use Rattle.run_responses.specs.declared.sink.ResponseOrder.{ResponseOrder}
 use Rattle.run_switch.specs.Legs.{AdvancesFor, lines_of, stage}
 use Rattle.tx_history.specs.declared.journal.JournalView.{JournalView}
 use Rattle.tx_engine.specs.World.{World}
@@ -20,7 +21,8 @@ use Rattle.run_switch.specs.Numbers.{begun_in, numbers_at}
 use Rattle.run_reports.specs.declared.Words.{Words}
 use Rattle.run_reports.specs.declared.ready.Recovered.{Recovered}
 use Rattle.run_switch.specs.Shown.{SaysReady, ShowsNumbers, TellsAll, TellsRun, unfinished_in, unfinished_of}
-use Rattle.run_switch.specs.Traces.{Cuts, DrainsAll, Log, Tells, passed_over}
+use Rattle.run_switch.specs.Traces.{Cuts, DrainsAll, Log, Tells}
+use Rattle.run_input.specs.Requests.{passed_over}
 use Rattle.run_switch.proofs.Tracing.{lines_before, lines_then}
 use Rattle.run_switch.specs.Rounds.{IsEmptied, Recovers, Round}
 use Rattle.run_switch.proofs.Recoveries.{made_view}
@@ -116,7 +118,7 @@ closed step p q r s t a b k l d sends rest emptied =
     (record { drained = q; drains = d.drains; sends = sends; rest = rest; emptied = emptied }, d.tells)
 
 -- a cut, rounds, and the end, one after the other
-pub all_served : (step : AdviceStep) (threads : Bool) (frames : List (List ℕ)) (p q r t : Point) (s v u : PlainAdvisor) (a b c : Option (List ℕ))
+pub all_served : (step : AdviceStep) (threads : Option ResponseOrder) (frames : List (List ℕ)) (p q r t : Point) (s v u : PlainAdvisor) (a b c : Option (List ℕ))
     (k l m o : Log) → Cuts p k q l → IsReady q → (f : AdvancesFor step threads frames (stage s q a) l (stage v r b) m)
     → (d : Closes step r v b t u c) × Tells d.drains.serves.lines 0 m o → (all : ServesAll step f.rounds p s a c) × (all.end ≡ t) × Tells (lines_cut all)
     (passed_over frames) k o

@@ -1,6 +1,6 @@
 -- A step of a session: what it leaves of queue and takes, and of the contexts that ended; a step of session 0: also what it leaves
 -- of the other sessions.
--- for: switch::Switch::run_next, serving::Switch::recover, batches::Switch::answer_batch
+-- for: switch::Switch::run_next, serving::Switch::recover, leg::answer_leg
 use Rattle.std.proofs.Common.{◌≡◌, ◌⊎◌, ℕ, suc, Bool, true, false, inl, inr, List, Option, Some, None, Result, Ok, Err, get_or, refl, ap, subst, ◌∙◌}
 use Rattle.std.specs.Prelude.{slice_set}
 use Rattle.std.specs.Ordering.{nat_cmp}

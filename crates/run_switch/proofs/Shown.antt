@@ -1,5 +1,5 @@
 -- Lines of a run's numbers among what is reported.
--- for: stats::Told, stats::Switch, stream::answer_messages, batches::answer_batches
+-- for: stats::Told, stats::Switch, stream::answer_messages, leg::answer_leg
 use Rattle.std.proofs.Common.{◌≡◌, ℕ, Bool, true, false, List, [], ◌∷◌, ◌++◌, Option, refl, sym, subst, ◌∙◌, add-zero, append-nil}
 use Rattle.std.specs.Io.KnownBytes.{Appends}
 use Rattle.cli_io.specs.Written.{AppendsBeginning}
@@ -13,8 +13,6 @@ use Rattle.run_switch.specs.Lines.{Line}
 use Rattle.run_switch.specs.Records.{Recording}
 use Rattle.run_switch.specs.Shown.{ShowsNumbers, if_shown}
 use Rattle.run_switch.specs.Traces.{Adds, AddsSome, Counted, IsQuiet, Log, Reports, Tells, Wants}
-use Rattle.sw_context.specs.Pairs.{Pairs}
-use Rattle.run_switch.proofs.Batched.{AnswersAll}
 use Rattle.run_switch.proofs.Recording.{records_same}
 use Rattle.run_switch.proofs.Tracing.{lines_then, none_wanted, quiet_none, true_not_false}
 
@@ -79,11 +77,6 @@ reports_shown rounds k p q a b x y z r s = record {
   serves = r.serves;
   tells = subst (λ (l : List Line). Tells l k x z) (append-nil r.serves.lines) (lines_then r.serves.lines [] k x y z r.tells s);
 }
-
--- after a batch
-pub batch_shown : (xs : List Pairs) (p q : Point) (a b : Option (List ℕ)) (x y z : Log) → AnswersAll xs p a x q b y → Tells [] 0 y z
-    → AnswersAll xs p a x q b z
-batch_shown xs p q a b x y z (rounds, answers, reports) s = (rounds, answers, reports_shown rounds 0 p q a b x y z reports s)
 
 -- what a write tells
 

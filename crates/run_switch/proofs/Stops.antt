@@ -1,6 +1,6 @@
 -- What is written where a switch ends with an error.
--- for: switch::Switch, stream::Requests, serving::Switch, serving::Begun, batches::Switch, batches::Requests
-use Rattle.std.proofs.Common.{◌≡◌, ◌<◌, ◌⊎◌, ℕ, ◌+◌, Bool, true, false, List, [], ◌∷◌, ◌++◌, length, map, take, drop, get_or, Option, Result, Ok, Err, refl}
+-- for: switch::Switch, stream, serving::Switch, serving::Begun, leg, streaming
+use Rattle.std.proofs.Common.{◌≡◌, ◌<◌, ◌⊎◌, ℕ, ◌+◌, List, [], ◌∷◌, ◌++◌, length, map, take, drop, get_or, Option, Some, None, Result, Ok, Err, refl}
 use Rattle.std.proofs.Common.{sym, ap, subst, ◌∙◌, append_assoc, append-nil, inl, inr}
 use Rattle.std.specs.Global.{Vec}
 use Rattle.std.specs.Prelude.{IfOk, OnErr, OnOk}
@@ -14,12 +14,14 @@ use Rattle.sw_frame.specs.Stream.{AreFramed, State}
 use Rattle.iso_codec.specs.Reads.{read}
 use Rattle.tx_plant.specs.declared.turn.Outcome.{Outcome}
 use Rattle.tx_plant.specs.declared.turn.Turn.TheVariants as turn
-use Rattle.run_switch.specs.Points.{IsAtRest, IsReady, Point, responses, unanswered}
-use Rattle.run_switch.specs.Requests.{Reads, ReadsOn, if_read, request_of, requests}
-use Rattle.run_switch.specs.Rounds.{Alone, Batched, Completed, Does, Drains, IsOfBatches, IsRetry, Offered, Released, Round, RoundsFor, Serves, ServesFor}
+use Rattle.run_switch.specs.Points.{IsAtRest, IsReady, Point, unanswered}
+use Rattle.run_responses.specs.Responses.{responses}
+use Rattle.run_input.specs.Requests.{Reads, ReadsOn, if_read, request_of, requests}
+use Rattle.run_switch.specs.Rounds.{Completed, Does, Drains, IsOfStream, IsRetry, Offered, Released, Round, RoundsFor, Serves, ServesFor, Streamed}
 use Rattle.run_switch.specs.Rounds.{Transacts, Trimmed, answering, offered_in, untrimmed}
+use Rattle.run_responses.specs.declared.sink.ResponseOrder.{ResponseOrder}
 use Rattle.run_switch.specs.Stopped.{DrainsSome, GivesSome, Halts, HaltsOn, HaltsToward, IsOfNext}
-use Rattle.run_switch.proofs.Readings.{requests_front, requests_next}
+use Rattle.run_input.proofs.Readings.{requests_front, requests_next}
 use Rattle.run_switch.specs.Traces.{Log}
 use Rattle.run_switch.proofs.Rounds.{Empties, answering_append, gives_own, retries_append, serves_none, serves_offer, serves_then}
 
@@ -28,8 +30,7 @@ nothing_next [] p = refl
 nothing_next (Offered x ∷ rounds) p = refl
 nothing_next (Completed ∷ rounds) p = inl refl
 nothing_next (Released ∷ rounds) p = refl
-nothing_next (Batched xs ∷ rounds) p = inl refl
-nothing_next (Alone x ∷ rounds) p = inl refl
+nothing_next (Streamed order xs ∷ rounds) p = inl refl
 nothing_next (Trimmed ∷ rounds) p = refl
 
 -- none of them was done
@@ -79,8 +80,7 @@ more_next [] others p text none = subst (IsOfNext others p) (sym none) (nothing_
 more_next (Offered x ∷ rounds) others p text h = h
 more_next (Completed ∷ rounds) others p text h = h
 more_next (Released ∷ rounds) others p text h = h
-more_next (Batched xs ∷ rounds) others p text h = h
-more_next (Alone x ∷ rounds) others p text h = h
+more_next (Streamed order xs ∷ rounds) others p text h = h
 more_next (Trimmed ∷ rounds) others p text h = h
 
 -- others were to come
@@ -147,37 +147,35 @@ pub halts_answers : (xs ys : List Pairs) (p : Point) (a b : Option (List ℕ)) �
 halts_answers xs ys p a b h =
     subst (λ (l : List Round). Halts l p a b) (sym (answering_append xs ys)) (halts_before (answering xs) (answering ys) p a b h)
 
--- in batches, or one after the other
+-- in legs, or one after the other
 
 pub offered_append : (rs ss : List Round) → offered_in (rs ++ ss) ≡ offered_in rs ++ offered_in ss
 offered_append [] ss = refl
 offered_append (Offered x ∷ rs) ss = ap (λ (l : List Pairs). x ∷ l) (offered_append rs ss)
 offered_append (Completed ∷ rs) ss = offered_append rs ss
 offered_append (Released ∷ rs) ss = offered_append rs ss
-offered_append (Batched xs ∷ rs) ss = ap (λ (l : List Pairs). xs ++ l) (offered_append rs ss) ∙ sym (append_assoc xs (offered_in rs) (offered_in ss))
-offered_append (Alone x ∷ rs) ss = ap (λ (l : List Pairs). x ∷ l) (offered_append rs ss)
+offered_append (Streamed order xs ∷ rs) ss = ap (λ (l : List Pairs). xs ++ l) (offered_append rs ss) ∙ sym (append_assoc xs (offered_in rs) (offered_in ss))
 offered_append (Trimmed ∷ rs) ss = offered_append rs ss
 
-pub of_batches_append : (rs ss : List Round) → AllByRecursion IsOfBatches rs → AllByRecursion IsOfBatches ss → AllByRecursion IsOfBatches (rs ++ ss)
-of_batches_append [] ss h k = k
-of_batches_append (r ∷ rs) ss h k = (h.0, of_batches_append rs ss h.1 k)
+pub of_stream_append : (order : ResponseOrder) (rs ss : List Round) → AllByRecursion (IsOfStream order) rs → AllByRecursion (IsOfStream order) ss
+    → AllByRecursion (IsOfStream order) (rs ++ ss)
+of_stream_append order [] ss h k = k
+of_stream_append order (r ∷ rs) ss h k = (h.0, of_stream_append order rs ss h.1 k)
 
-pub retries_are_of_batches : (rs : List Round) → AllByRecursion IsRetry rs → AllByRecursion IsOfBatches rs
-retries_are_of_batches [] h = tt
-retries_are_of_batches (Offered x ∷ rs) h = absurd h.0
-retries_are_of_batches (Completed ∷ rs) h = (tt, retries_are_of_batches rs h.1)
-retries_are_of_batches (Released ∷ rs) h = (tt, retries_are_of_batches rs h.1)
-retries_are_of_batches (Batched xs ∷ rs) h = absurd h.0
-retries_are_of_batches (Alone x ∷ rs) h = absurd h.0
-retries_are_of_batches (Trimmed ∷ rs) h = absurd h.0
+pub retries_are_of_stream : (order : ResponseOrder) (rs : List Round) → AllByRecursion IsRetry rs → AllByRecursion (IsOfStream order) rs
+retries_are_of_stream order [] h = tt
+retries_are_of_stream order (Offered x ∷ rs) h = absurd h.0
+retries_are_of_stream order (Completed ∷ rs) h = (tt, retries_are_of_stream order rs h.1)
+retries_are_of_stream order (Released ∷ rs) h = (tt, retries_are_of_stream order rs h.1)
+retries_are_of_stream order (Streamed own xs ∷ rs) h = absurd h.0
+retries_are_of_stream order (Trimmed ∷ rs) h = absurd h.0
 
 pub retries_offer_none : (rs : List Round) → AllByRecursion IsRetry rs → offered_in rs ≡ []
 retries_offer_none [] h = refl
 retries_offer_none (Offered x ∷ rs) h = absurd h.0
 retries_offer_none (Completed ∷ rs) h = retries_offer_none rs h.1
 retries_offer_none (Released ∷ rs) h = retries_offer_none rs h.1
-retries_offer_none (Batched xs ∷ rs) h = absurd h.0
-retries_offer_none (Alone x ∷ rs) h = absurd h.0
+retries_offer_none (Streamed order xs ∷ rs) h = absurd h.0
 retries_offer_none (Trimmed ∷ rs) h = absurd h.0
 
 pub untrimmed_append : (rs ss : List Round) → untrimmed (rs ++ ss) ≡ untrimmed rs ++ untrimmed ss
@@ -185,8 +183,7 @@ untrimmed_append [] ss = refl
 untrimmed_append (Offered x ∷ rs) ss = ap (λ (l : List Round). Offered x ∷ l) (untrimmed_append rs ss)
 untrimmed_append (Completed ∷ rs) ss = ap (λ (l : List Round). Completed ∷ l) (untrimmed_append rs ss)
 untrimmed_append (Released ∷ rs) ss = ap (λ (l : List Round). Released ∷ l) (untrimmed_append rs ss)
-untrimmed_append (Batched xs ∷ rs) ss = ap (λ (l : List Round). Batched xs ∷ l) (untrimmed_append rs ss)
-untrimmed_append (Alone x ∷ rs) ss = ap (λ (l : List Round). Alone x ∷ l) (untrimmed_append rs ss)
+untrimmed_append (Streamed order xs ∷ rs) ss = ap (λ (l : List Round). Streamed order xs ∷ l) (untrimmed_append rs ss)
 untrimmed_append (Trimmed ∷ rs) ss = untrimmed_append rs ss
 
 pub untrimmed_answering : (xs : List Pairs) → untrimmed (answering xs) ≡ answering xs
@@ -197,48 +194,48 @@ both_answering : (xs ys : List Pairs) (rs ss : List Round) → untrimmed rs ≡ 
     untrimmed (rs ++ ss) ≡ answering (xs ++ ys)
 both_answering xs ys rs ss is are = untrimmed_append rs ss ∙ (rw (is, are) (sym (answering_append xs ys)))
 
-pub rounds_append : (threads : Bool) (xs ys : List Pairs) (rs ss : List Round) → RoundsFor threads xs rs → RoundsFor threads ys ss →
+pub rounds_append : (threads : Option ResponseOrder) (xs ys : List Pairs) (rs ss : List Round) → RoundsFor threads xs rs → RoundsFor threads ys ss →
     RoundsFor threads (xs ++ ys) (rs ++ ss)
-rounds_append false xs ys rs ss is are = both_answering xs ys rs ss is are
-rounds_append true xs ys rs ss is are = (rw (sym is.0, sym are.0) (offered_append rs ss), of_batches_append rs ss is.1 are.1)
+rounds_append None xs ys rs ss is are = both_answering xs ys rs ss is are
+rounds_append (Some order) xs ys rs ss is are = (rw (sym is.0, sym are.0) (offered_append rs ss), of_stream_append order rs ss is.1 are.1)
 
-pub rounds_none : (threads : Bool) → RoundsFor threads [] []
-rounds_none false = refl
-rounds_none true = (refl, tt)
+pub rounds_none : (threads : Option ResponseOrder) → RoundsFor threads [] []
+rounds_none None = refl
+rounds_none (Some order) = (refl, tt)
 
-pub toward_none : (threads : Bool) (xs : List Pairs) (p : Point) (a : Option (List ℕ)) → HaltsToward threads xs p a a
-toward_none false xs p a = (answering xs, untrimmed_answering xs, halts_none (answering xs) p a)
-toward_none true xs p a = ([], (xs, refl, tt), halts_none [] p a)
+pub toward_none : (threads : Option ResponseOrder) (xs : List Pairs) (p : Point) (a : Option (List ℕ)) → HaltsToward threads xs p a a
+toward_none None xs p a = (answering xs, untrimmed_answering xs, halts_none (answering xs) p a)
+toward_none (Some order) xs p a = ([], (xs, refl, tt), halts_none [] p a)
 
-pub toward_then : (threads : Bool) (xs ys : List Pairs) (p q : Point) (a b c : Option (List ℕ)) → ServesFor threads xs p a q b →
+pub toward_then : (threads : Option ResponseOrder) (xs ys : List Pairs) (p q : Point) (a b c : Option (List ℕ)) → ServesFor threads xs p a q b →
     HaltsToward threads ys q b c → HaltsToward threads (xs ++ ys) p a c
-toward_then false xs ys p q a b c (rs, is, s) (ss, are, h) = (rs ++ ss, both_answering xs ys rs ss is are, halts_then rs ss p q a b c s h)
-toward_then true xs ys p q a b c (rs, is, s) (ss, (later, split, all), h) = (
+toward_then None xs ys p q a b c (rs, is, s) (ss, are, h) = (rs ++ ss, both_answering xs ys rs ss is are, halts_then rs ss p q a b c s h)
+toward_then (Some order) xs ys p q a b c (rs, is, s) (ss, (later, split, all), h) = (
   rs ++ ss,
   (
     later,
     ap (λ (l : List Pairs). xs ++ l) split ∙ (ap (λ (l : List Pairs). l ++ (offered_in ss ++ later)) (sym is.0)
         ∙ (sym (append_assoc (offered_in rs) (offered_in ss) later) ∙ ap (λ (l : List Pairs). l ++ later) (sym (offered_append rs ss)))),
-    of_batches_append rs ss is.1 all,
+    of_stream_append order rs ss is.1 all,
   ),
   halts_then rs ss p q a b c s h,
 )
 
-pub toward_before : (threads : Bool) (xs ys : List Pairs) (p : Point) (a b : Option (List ℕ)) → HaltsToward threads xs p a b →
+pub toward_before : (threads : Option ResponseOrder) (xs ys : List Pairs) (p : Point) (a b : Option (List ℕ)) → HaltsToward threads xs p a b →
     HaltsToward threads (xs ++ ys) p a b
-toward_before false xs ys p a b (rs, is, h) = (
+toward_before None xs ys p a b (rs, is, h) = (
   rs ++ answering ys,
   both_answering xs ys rs (answering ys) is (untrimmed_answering ys),
   halts_before rs (answering ys) p a b h,
 )
-toward_before true xs ys p a b (rs, (later, split, all), h) = (
+toward_before (Some order) xs ys p a b (rs, (later, split, all), h) = (
   rs,
   (later ++ ys, ap (λ (l : List Pairs). l ++ ys) split ∙ append_assoc (offered_in rs) later ys, all),
   h,
 )
 
 -- one after the other
-pub toward_answering : (xs : List Pairs) (p : Point) (a b : Option (List ℕ)) → Halts (answering xs) p a b → HaltsToward false xs p a b
+pub toward_answering : (xs : List Pairs) (p : Point) (a b : Option (List ℕ)) → Halts (answering xs) p a b → HaltsToward None xs p a b
 toward_answering xs p a b h = (answering xs, untrimmed_answering xs, h)
 
 -- the queue and the shelf
@@ -291,13 +288,17 @@ halts_message list i m bytes p q a b c lt at is serves h =
 
 -- a piece of an input
 
-pub halts_reads : (threads : Bool) (left then : Option (List ℕ)) (more : List (List ℕ)) (s t : State) (p : Point) (a b : Option (List ℕ)) →
+pub halts_reads : (threads : Option ResponseOrder) (left then : Option (List ℕ)) (more : List (List ℕ)) (s t : State) (p : Point) (a b : Option (List ℕ)) →
     ReadsOn left s more then t → HaltsToward threads (requests more) p a b → HaltsOn threads left s p a b
 halts_reads threads left then more s t p a b on h = λ input frames reads. (more, record { left = then; state = t; reads = on input frames reads }, h)
 
-pub halts_unread : (threads : Bool) (left : Option (List ℕ)) (s : State) (p : Point) (a : Option (List ℕ)) → HaltsOn threads left s p a a
+pub halts_unread : (threads : Option ResponseOrder) (left : Option (List ℕ)) (s : State) (p : Point) (a : Option (List ℕ)) → HaltsOn threads left s p a a
 halts_unread threads left s p a = λ input frames reads. (
   [],
   record { left = left; state = s; reads = subst (λ (l : List (List ℕ)). Reads input left l s) (sym (append-nil frames)) reads },
   toward_none threads [] p a,
 )
+
+-- nothing was done, and nothing written
+pub drains_at_once : (p : Point) (a : Option (List ℕ)) → DrainsSome p a a
+drains_at_once p a = record { rounds = []; retries = tt; halts = halts_none [] p a }

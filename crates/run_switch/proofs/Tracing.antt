@@ -1,23 +1,17 @@
 -- What is reported, one after the other.
 -- for: reporter::Told, switch::Switch, stream::Requests, serving::Switch
-use Rattle.std.proofs.Common.{◌≡◌, ◌<◌, ℕ, ◌+◌, Bool, true, false, List, [], ◌∷◌, ◌++◌, length, take, get_or, min, ◌-◌, ◌^◌, Option, Some, None, Result, Ok}
-use Rattle.std.proofs.Common.{Err, is_some, refl, sym, ap, subst, arith, ◌∙◌, add-zero, zero-add, append-nil, append_assoc}
-use Rattle.std.specs.Global.{Vec}
+use Rattle.std.proofs.Common.{◌≡◌, ◌<◌, ℕ, ◌+◌, Bool, true, false, List, [], ◌∷◌, ◌++◌, min, ◌-◌, ◌^◌, Option, Some, None}
+use Rattle.std.proofs.Common.{refl, sym, ap, subst, arith, ◌∙◌, add-zero, zero-add, append-nil, append_assoc}
 use Rattle.std.specs.Io.KnownBytes.{Appends}
 use Rattle.std.proofs.KnownBytes.{Appends-nil, Appends-trans}
 use Rattle.std.proofs.Math.Nat.{min-eq_left}
 use Rattle.std.proofs.lemmas.Grind.{flat_map-append}
-use Rattle.std.proofs.lemmas.List.{map-append, take_more}
-use Rattle.iso_msg.specs.Messages.{PlainMessage}
-use Rattle.iso_codec.specs.declared.error.DecodeError.{DecodeError}
-use Rattle.iso_codec.specs.Reads.{read, type_of}
-use Rattle.sw_frame.specs.Feeds.{messages}
 use Rattle.cli_io.specs.Written.{AppendsBeginning}
 use Rattle.run_switch.specs.declared.reporter.LineForm.{LineForm}
 use Rattle.run_switch.specs.Lines.{Line, in_form, written_as}
 use Rattle.run_switch.specs.Records.{Recording, Records}
 use Rattle.run_switch.specs.Traces.{Adds, AddsSome, AreBegun, Counted, IsQuiet, Log, Passed, Piece, Said, Tells, Traced, Wants}
-use Rattle.run_switch.specs.Traces.{counted_in, if_passed, if_wanted, passed_in, passed_line, passed_over, piece_text, said_in, text_of, traced_in}
+use Rattle.run_switch.specs.Traces.{counted_in, if_wanted, passed_in, passed_line, piece_text, said_in, text_of, traced_in}
 use Rattle.run_switch.proofs.Recording.{records_none, records_then}
 
 text_append : (ps qs : List Piece) → text_of (ps ++ qs) ≡ text_of ps ++ text_of qs
@@ -279,41 +273,3 @@ pub passed_lost : (number : ℕ) (cause line : List ℕ) (w : Option LineForm) (
 passed_lost number cause line w s l o k m t u r more is lost written =
     let begun : AddsSome s [] 1 t u = some_of s (Passed number cause) t u (quiet_passed s number cause) (subst (AppendsBeginning t u) is written) in
     told_some [] 1 w s l o k m t u r r (one_more k m more) lost (subst (λ (x : List ℕ). AddsSome s x 1 t u) (sym (none_wanted w)) begun) (records_none r)
-
--- messages
-
-pub none_passed : (r : Result PlainMessage DecodeError) (m : PlainMessage) → r ≡ Ok m → if_passed r ≡ 0
-none_passed r m is = rw is refl
-
-pub one_passed : (r : Result PlainMessage DecodeError) (e : DecodeError) → r ≡ Err e → if_passed r ≡ 1
-one_passed r e is = rw is refl
-
--- a message with a type is not passed over
-read_told : (r : Result PlainMessage DecodeError) (a : Log) → is_some (type_of r) ≡ true → Tells [] (if_passed r) a a
-read_told (Ok m) a typed = tells_none a
-read_told (Err e) a typed = absurd (let none : true ≡ false = sym typed in cc)
-
-pub typed_told : (bytes : List ℕ) (a : Log) → is_some (type_of (read bytes)) ≡ true → Tells [] (if_passed (read bytes)) a a
-typed_told bytes a typed = read_told (read bytes) a typed
-
-pub passed_over_append : (ms ns : List (List ℕ)) → passed_over (ms ++ ns) ≡ passed_over ms + passed_over ns
-passed_over_append [] ns = sym (zero-add (passed_over ns))
-passed_over_append (m ∷ ms) ns = let ih = passed_over_append ms ns in omega (arith, ih)
-
-pub passed_over_next : (list : List (Vec ℕ)) (i : ℕ) (m : Vec ℕ) (bytes : List ℕ) → i < length list → m ≡ get_or list i m → bytes ≡ m.items →
-    passed_over (messages (take (i + 1) list)) ≡ passed_over (messages (take i list)) + if_passed (read bytes)
-passed_over_next list i m bytes lt at is =
-    let more : take (i + 1) list ≡ take i list ++ m ∷ [] = take_more list i m lt ∙ ap (λ (v : Vec ℕ). take i list ++ v ∷ []) (sym at) in
-    let halves : messages (take i list ++ m ∷ []) ≡ messages (take i list) ++ m.items ∷ [] = map-append (λ (v : Vec ℕ). v.items) (take i list) (m ∷ []) in
-    let whole : passed_over (messages (take (i + 1) list)) ≡ passed_over (messages (take i list)) + passed_over (m.items ∷ []) =
-    ap (λ (l : List (Vec ℕ)). passed_over (messages l)) more ∙ (ap passed_over halves ∙ passed_over_append (messages (take i list)) (m.items ∷ [])) in
-    let one : passed_over (m.items ∷ []) ≡ if_passed (read bytes) = add-zero (if_passed (read m.items)) ∙ ap (λ (l : List ℕ). if_passed (read l)) (sym is) in
-    whole ∙ ap (λ (k : ℕ). passed_over (messages (take i list)) + k) one
-
--- of one more message
-pub passed_more : (list : List (Vec ℕ)) (i : ℕ) (m : Vec ℕ) (bytes : List ℕ) (a b c : Log) → i < length list → m ≡ get_or list i m → bytes ≡ m.items →
-    Tells [] (passed_over (messages (take i list))) a b → Tells [] (if_passed (read bytes)) b c
-    → Tells [] (passed_over (messages (take (i + 1) list))) a c
-passed_more list i m bytes a b c lt at is s t =
-    subst (λ (k : ℕ). Tells [] k a c) (sym (passed_over_next list i m bytes lt at is))
-    (tells_then [] [] (passed_over (messages (take i list))) (if_passed (read bytes)) a b c s t)

@@ -19,8 +19,8 @@ use Rattle.tx_pool.specs.declared.refusal.PoolError.TheVariants as pool
 use Rattle.run_switch.specs.declared.error.ServeError.{ServeError}
 use Rattle.run_switch.specs.declared.error.ServeError.TheVariants.{BadLength as BadFrameLength, BadSessions, DoubleStation, Engine, Io, Journal, Mismatch}
 use Rattle.run_switch.specs.declared.error.ServeError.TheVariants.{NoStation, OutOfMemory, Pool, Seating, Truncated as TruncatedFrame}
-use Rattle.run_switch.specs.declared.stream.StreamEnd.{StreamEnd}
-use Rattle.run_switch.specs.declared.stream.StreamEnd.TheVariants.{Whole, BadLength, Truncated, Unread}
+use Rattle.run_input.specs.declared.frames.StreamEnd.{StreamEnd}
+use Rattle.run_input.specs.declared.frames.StreamEnd.TheVariants.{Whole, BadLength, Truncated, Unread}
 
 -- out of memory is an error of its own, and every other error is carried over
 abbrev pub error_of_engine : EngineError → ServeError
@@ -66,7 +66,7 @@ result_of (BadLength n) = Err (BadFrameLength n)
 result_of (Truncated n) = Err (TruncatedFrame n)
 result_of (Unread e) = Err (error_of_io e)
 
--- why a batch was not run, or was given up
+-- why a leg was not run, or was given up
 abbrev pub error_of_fault : Fault → ServeError
 error_of_fault (fault.Journal e) = Journal e
 error_of_fault (fault.Engine e) = error_of_engine e

@@ -1,9 +1,9 @@
 pub mod Points
 pub mod Rounds
 pub mod Advices
+pub mod Led
 pub mod Legs
 pub mod Ran
-pub mod Requests
 pub mod Errors
 pub mod Links
 pub mod Lines

@@ -1,17 +1,16 @@
--- What a switch does: recoveries, requests offered, transactions run to their end, batches run, the shelf released.
+-- What a switch does: recoveries, requests offered, transactions run to their end, legs run, the shelf released.
 --
 -- - *Recovers, transacts, completes, drains* (`Rounds.antt`): a recovery; one transaction from
 --   its take to its end; the same with its response given and a long history cut; the queue and
 --   the shelf emptied. *Round*: a request offered, a transaction completed, the shelf released, a
---   batch run, a request alone run, or the history cut; *goes*: rounds one after the other, with
---   the bytes that they give. Each is a list of calls of `drive`, as `tx_seats` has them.
--- - *Together* (`Rounds.antt`): a batch of requests, offered in their order and run by all
---   sessions until nothing is left to do. *Runs*: the same with the responses of all that ended.
---   *Finishes*: what comes after, which is the responses, the shelf, and a cut that may be made.
+--   leg run, or the history cut; *goes*: rounds one after the other, with the bytes that they give.
+--   Each is a list of calls of `drive`, as `tx_seats` has them.
+-- - *Together* (`Rounds.antt`): the requests of a leg, offered in their order and run by all
+--   sessions until nothing is left to do. *Runs*: the same with the responses of its transactions.
+--   *Finishes*: what comes after, which is the shelf, and a cut that may be made.
 -- - *Rounds for* some requests: each offered and completed before the next; or, with threads, in
---   batches of 2 to 256 and alone, in their order. *Rounds toward* them: the same, where the last
---   ones were not reached.
-use Rattle.std.specs.Prelude.{◌≡◌, ◌≤◌, ◌⊎◌, ℕ, ◌+◌, ⊤, Bool, true, false, List, [], ◌∷◌, ◌++◌, length, map, drop, Option, None}
+--   legs, in their order. *Rounds toward* them: the same, where the last ones were not reached.
+use Rattle.std.specs.Prelude.{◌≡◌, ◌⊎◌, ℕ, ◌+◌, ⊤, false, List, [], ◌∷◌, ◌++◌, map, drop, Option, Some, None}
 use Rattle.std.specs.Io.KnownBytes.{Appends}
 use Rattle.std.specs.List.{AllByRecursion}
 use Rattle.sw_context.specs.Pairs.{Pairs}
@@ -27,11 +26,16 @@ use Rattle.tx_plant.specs.declared.turn.Turn.TheVariants as turn
 use Rattle.tx_plant.specs.Recovery.{IsRecovery}
 use Rattle.tx_plant.specs.Steps.{Moved}
 use Rattle.tx_seats.specs.Drives.{AllDriven, Done, Drive}
+use Rattle.tx_locked.specs.Finished.{finished_in}
 use Rattle.tx_locked.specs.Receipts.{offered_of, run_entries}
 use Rattle.tx_locked.specs.Settled.{IsSettled}
 use Rattle.tx_pool.specs.Went.{Grown}
+use Rattle.run_responses.specs.declared.sink.ResponseOrder.{ResponseOrder}
+use Rattle.run_responses.specs.declared.sink.ResponseOrder.TheVariants.{ByEnd, ById}
+use Rattle.run_responses.specs.Giving.{AreFound}
 use Rattle.run_switch.specs.Lines.{Line, lines_in}
-use Rattle.run_switch.specs.Points.{IsAllWritten, IsAtRest, IsIdle, IsReady, Point, all_answered, ended_at, is_long, next_at, response_of, responses, unanswered}
+use Rattle.run_switch.specs.Points.{IsAllWritten, IsAtRest, IsIdle, IsReady, Point, all_answered, ended_at, is_long, next_at, response_of, unanswered}
+use Rattle.run_responses.specs.Responses.{responses}
 use Rattle.run_switch.specs.Points.{with_ended, world_at}
 
 -- calls of `drive`, one after the other; no response is given in between
@@ -83,7 +87,7 @@ pub record Completes (p : Point) (bytes : List ℕ) (lines : List Line) (q : Poi
   pub cuts : MayCut (all_answered ended) lines q
   pub rest : IsAtRest q
 
--- A batch: the requests are offered, in their order, and run by all sessions at once, until nothing waits, no session holds a
+-- A leg: the requests are offered, in their order, and run by all sessions at once, until nothing waits, no session holds a
 -- transaction, and all is written. It is one call of `drive`.
 pub record Together (requests : List Pairs) (p q : Point) : Type 0 where
   pub turns : List Turn
@@ -93,27 +97,19 @@ pub record Together (requests : List Pairs) (p q : Point) : Type 0 where
   pub offered : offered_of (run_entries (world_at p) (world_at q)) ≡ map bytes_of requests
   pub settled : IsSettled (world_at q)
 
--- A batch is run; then the responses of all transactions that ended are given, ids rising.
-pub record Runs (requests : List Pairs) (p : Point) (bytes : List ℕ) (q : Point) : Type 0 where
+-- The transactions of a leg whose responses are given, in their order: by their ids, all that ended; or those that the entries of the
+-- leg ended by done, in the order of their ends, each with the context that it ended with.
+abbrev pub AreOrdered : ResponseOrder → Point → Point → List (ℕ × Pairs) → Type 0
+AreOrdered ById p q list = list ≡ unanswered q
+AreOrdered ByEnd p q list = (map (λ e. e.0) list ≡ finished_in (run_entries (world_at p) (world_at q))) × AreFound (ended_at q) list
+
+-- A leg is run, and the responses of its transactions are given, in this order.
+pub record Runs (order : ResponseOrder) (requests : List Pairs) (p : Point) (bytes : List ℕ) (q : Point) : Type 0 where
   pub ended : Point
   pub together : Together requests p ended
-  pub gives : AreFramed bytes (responses (unanswered ended))
-  pub answered : q ≡ all_answered ended
-
--- A request that came alone, in a run with threads: it is offered, and session 0 runs its transaction to its end. No thread is
--- started for it.
-pub record Lone (request : Pairs) (p : Point) (own : Option Pairs) (q : Point) : Type 0 where
-  pub outcome : Outcome
-  pub offered : Point
-  pub offers : Does (turn.Offer request) outcome p offered
-  pub transacts : Transacts offered own q
-
--- Then its response is given, and no other.
-pub record RunsLone (request : Pairs) (p : Point) (bytes : List ℕ) (q : Point) : Type 0 where
-  pub own : Option Pairs
-  pub ended : Point
-  pub lone : Lone request p own ended
-  pub gives : AreFramed bytes (response_of own)
+  pub list : List (ℕ × Pairs)
+  pub ordered : AreOrdered order p ended list
+  pub gives : AreFramed bytes (responses list)
   pub answered : q ≡ all_answered ended
 
 -- what is done, from one response to the next
@@ -121,11 +117,10 @@ pub data Round : Type 0 where
   Offered : (request : Pairs) → Round
   Completed : Round
   Released : Round
-  Batched : (requests : List Pairs) → Round
-  Alone : (request : Pairs) → Round
+  Streamed : (order : ResponseOrder) → (requests : List Pairs) → Round
   Trimmed : Round
 
--- One after the other, with what they give, and the lines of the entries that are cut. A request is offered, or a batch, only
+-- One after the other, with what they give, and the lines of the entries that are cut. A request is offered, or a leg begun, only
 -- when the switch is ready for it.
 abbrev pub Goes : List Round → Point → List ℕ → List Line → Point → Type 0
 Goes [] p bytes lines q = (bytes ≡ []) × (lines ≡ []) × (q ≡ p)
@@ -134,10 +129,8 @@ Goes (Completed ∷ rs) p bytes lines q =
     (w : Point) × (first : List ℕ) × (later : List ℕ) × (cut : List Line) × (others : List Line)
     × Completes p first cut w × Goes rs w later others q × (bytes ≡ first ++ later) × (lines ≡ cut ++ others)
 Goes (Released ∷ rs) p bytes lines q = (o : Outcome) × (w : Point) × Does turn.Release o p w × Goes rs w bytes lines q
-Goes (Batched xs ∷ rs) p bytes lines q = IsReady p × (w : Point) × (first : List ℕ) × (later : List ℕ) × Runs xs p first w × Goes rs w later lines q
-    × (bytes ≡ first ++ later)
-Goes (Alone x ∷ rs) p bytes lines q = IsReady p × (w : Point) × (first : List ℕ) × (later : List ℕ) × RunsLone x p first w × Goes rs w later lines q
-    × (bytes ≡ first ++ later)
+Goes (Streamed order xs ∷ rs) p bytes lines q = IsReady p × (w : Point) × (first : List ℕ) × (later : List ℕ) × Runs order xs p first w
+    × Goes rs w later lines q × (bytes ≡ first ++ later)
 Goes (Trimmed ∷ rs) p bytes lines q = (w : Point) × (cut : List Line) × (others : List Line) × MayCut p cut w × Goes rs w bytes others q
     × (lines ≡ cut ++ others)
 
@@ -158,18 +151,17 @@ IsRetry Completed = ⊤
 IsRetry Released = ⊤
 IsRetry _ = ⊥
 
--- with threads: a batch has 2 to 256 requests, and one that came alone is answered alone
-abbrev pub IsOfBatches : Round → Type 0
-IsOfBatches (Offered x) = ⊥
-IsOfBatches (Batched xs) = (2 ≤ length xs) × (length xs ≤ 256)
-IsOfBatches _ = ⊤
+-- with threads: requests are offered in legs alone, and the responses of each leg leave in this order
+abbrev pub IsOfStream : ResponseOrder → Round → Type 0
+IsOfStream order (Offered x) = ⊥
+IsOfStream order (Streamed own xs) = own ≡ order
+IsOfStream order _ = ⊤
 
 -- the requests that are offered, in their order
 abbrev pub offered_in : List Round → List Pairs
 offered_in [] = []
 offered_in (Offered x ∷ rs) = x ∷ offered_in rs
-offered_in (Batched xs ∷ rs) = xs ++ offered_in rs
-offered_in (Alone x ∷ rs) = x ∷ offered_in rs
+offered_in (Streamed order xs ∷ rs) = xs ++ offered_in rs
 offered_in (_ ∷ rs) = offered_in rs
 
 -- rounds, with what an output holds before and after, where that is known, and the lines of the entries that are cut
@@ -179,18 +171,19 @@ pub record Serves (rounds : List Round) (p : Point) (before : Option (List ℕ))
   pub goes : Goes rounds p bytes lines q
   pub appends : Appends before after bytes
 
--- rounds that answer these requests: without threads one after the other, with threads in batches. The history may be cut between them.
-abbrev pub RoundsFor : Bool → List Pairs → List Round → Type 0
-RoundsFor false requests rounds = untrimmed rounds ≡ answering requests
-RoundsFor true requests rounds = (offered_in rounds ≡ requests) × AllByRecursion IsOfBatches rounds
+-- Rounds that answer these requests: without threads one after the other, with threads in legs, whose responses leave in the order that
+-- is given. The history may be cut between them.
+abbrev pub RoundsFor : Option ResponseOrder → List Pairs → List Round → Type 0
+RoundsFor None requests rounds = untrimmed rounds ≡ answering requests
+RoundsFor (Some order) requests rounds = (offered_in rounds ≡ requests) × AllByRecursion (IsOfStream order) rounds
 
--- rounds on the way to that: with threads, batches of the last requests may be missing
-abbrev pub RoundsToward : Bool → List Pairs → List Round → Type 0
-RoundsToward false requests rounds = untrimmed rounds ≡ answering requests
-RoundsToward true requests rounds = (later : List Pairs) × (requests ≡ offered_in rounds ++ later) × AllByRecursion IsOfBatches rounds
+-- rounds on the way to that: with threads, legs of the last requests may be missing
+abbrev pub RoundsToward : Option ResponseOrder → List Pairs → List Round → Type 0
+RoundsToward None requests rounds = untrimmed rounds ≡ answering requests
+RoundsToward (Some order) requests rounds = (later : List Pairs) × (requests ≡ offered_in rounds ++ later) × AllByRecursion (IsOfStream order) rounds
 
 -- these requests are answered
-abbrev pub ServesFor : Bool → List Pairs → Point → Option (List ℕ) → Point → Option (List ℕ) → Type 0
+abbrev pub ServesFor : Option ResponseOrder → List Pairs → Point → Option (List ℕ) → Point → Option (List ℕ) → Type 0
 ServesFor threads requests p before q after = (rounds : List Round) × RoundsFor threads requests rounds × Serves rounds p before q after
 
 -- nothing waits

@@ -1,22 +1,28 @@
 -- What a run that ends with an error has written.
-use Rattle.std.specs.Prelude.{◌≡◌, ◌⊎◌, ℕ, Bool, List, [], ◌∷◌, ◌++◌, Option, Some, None}
-use Rattle.std.specs.Io.KnownBytes.{Appends, Keeps}
+use Rattle.std.specs.Prelude.{◌≡◌, ◌⊎◌, ℕ, List, [], ◌∷◌, ◌++◌, map, Option, Some, None}
+use Rattle.std.specs.Io.KnownBytes.{Keeps}
 use Rattle.std.specs.List.{AllByRecursion}
 use Rattle.cli_io.specs.Written.{AppendsBeginning}
 use Rattle.sw_context.specs.Pairs.{Pairs}
 use Rattle.sw_frame.specs.Stream.{AreFramed, State}
+use Rattle.tx_locked.specs.Finished.{WereKept}
+use Rattle.run_input.specs.declared.arrival.Arrival.{Arrival}
+use Rattle.run_input.specs.Arrivals.{requests_of}
+use Rattle.run_responses.specs.declared.sink.ResponseOrder.{ResponseOrder}
+use Rattle.run_responses.specs.Giving.{AreFound}
 use Rattle.flow_model.specs.declared.flow.Flow.{Flow}
 use Rattle.tx_plant.specs.Plant.{Seen}
-use Rattle.run_switch.specs.declared.stream.StreamEnd.{StreamEnd}
-use Rattle.run_switch.specs.Points.{IsReady, Point, all_answered, response_of, responses, unanswered, world_at}
-use Rattle.run_switch.specs.Rounds.{Alone, Batched, Completed, IsRetry, Lone, MayCut, Round, RoundsFor, RoundsToward, Serves, Together, Transacts}
+use Rattle.run_input.specs.declared.frames.StreamEnd.{StreamEnd}
+use Rattle.run_switch.specs.Points.{IsReady, Point, ended_at, response_of, unanswered, world_at}
+use Rattle.run_responses.specs.Responses.{responses}
+use Rattle.run_switch.specs.Rounds.{Completed, IsRetry, MayCut, Round, RoundsFor, RoundsToward, Serves, Streamed, Together, Transacts}
 use Rattle.run_switch.specs.declared.reporter.LineForm.TheVariants.{Text}
 use Rattle.run_switch.specs.Lines.{Line, lines_in, written_as}
 use Rattle.sw_issuers.specs.Sending.{PlainSender}
 use Rattle.run_switch.specs.Advices.{AdviceStep, PlainAdvisor, begun_advisor}
 use Rattle.run_switch.specs.Legs.{Advances, Stage, stage}
 use Rattle.run_switch.specs.Ran.{Begins}
-use Rattle.run_switch.specs.Requests.{ReadTo, Reads, requests}
+use Rattle.run_input.specs.Requests.{BeginsWith, ReadTo, Reads, requests}
 
 -- the next transaction ran to its end, and this is the frame of its response
 pub record Answers (p : Point) (text : List ℕ) : Type 0 where
@@ -25,25 +31,26 @@ pub record Answers (p : Point) (text : List ℕ) : Type 0 where
   pub transacts : Transacts p own ended
   pub framed : AreFramed text (response_of own)
 
--- a batch was run, and these are the frames of its responses
-pub record AnswersBatch (requests : List Pairs) (p : Point) (text : List ℕ) : Type 0 where
-  pub ended : Point
-  pub together : Together requests p ended
-  pub framed : AreFramed text (responses (unanswered ended))
+-- Each of these transactions had ended with its context: at a moment of a leg that did not end well, or when the leg had ended.
+abbrev pub HadEnded : Point → List (ℕ × Pairs) → Type 0
+HadEnded p list = WereKept p.plant.core (map (λ e. record { id = e.0; context = e.1 }) list)
+    ⊎ ((requests : List Pairs) × (ended : Point) × Together requests p ended × AreFound (ended_at ended) list)
 
--- a request that came alone was offered, its transaction ran to its end, and this is the frame of its response
-pub record AnswersLone (request : Pairs) (p : Point) (text : List ℕ) : Type 0 where
-  pub own : Option Pairs
-  pub ended : Point
-  pub lone : Lone request p own ended
-  pub framed : AreFramed text (response_of own)
+-- these are the frames of the responses of transactions that had ended in a leg
+pub record AnswersSome (p : Point) (text : List ℕ) : Type 0 where
+  pub list : List (ℕ × Pairs)
+  pub had_ended : HadEnded p list
+  pub framed : AreFramed text (responses list)
 
--- what the next round was to give: nothing, or the responses of a transaction or a batch that ran to its end
+-- what the next round was to give: nothing, the response of a transaction that ran to its end, or responses of a leg
 abbrev pub IsOfNext : List Round → Point → List ℕ → Type 0
 IsOfNext (Completed ∷ rounds) p text = (text ≡ []) ⊎ Answers p text
-IsOfNext (Batched xs ∷ rounds) p text = (text ≡ []) ⊎ AnswersBatch xs p text
-IsOfNext (Alone x ∷ rounds) p text = (text ≡ []) ⊎ AnswersLone x p text
+IsOfNext (Streamed order xs ∷ rounds) p text = (text ≡ []) ⊎ AnswersSome p text
 IsOfNext rounds p text = text ≡ []
+
+-- a beginning of responses of a leg is written
+abbrev pub GivesEnded : Point → Option (List ℕ) → Option (List ℕ) → Type 0
+GivesEnded p before after = (text : List ℕ) × ((text ≡ []) ⊎ AnswersSome p text) × AppendsBeginning before after text
 
 -- a beginning of the responses that were to be given is written
 abbrev pub GivesSome : Point → Option (List ℕ) → Option (List ℕ) → Type 0
@@ -62,22 +69,16 @@ pub record Halts (rounds : List Round) (p : Point) (before after : Option (List 
   pub written : AppendsBeginning between after next
 
 -- some of these requests were answered, with or without threads, up to an error
-abbrev pub HaltsToward : Bool → List Pairs → Point → Option (List ℕ) → Option (List ℕ) → Type 0
+abbrev pub HaltsToward : Option ResponseOrder → List Pairs → Point → Option (List ℕ) → Option (List ℕ) → Type 0
 HaltsToward threads requests p before after = (rounds : List Round) × RoundsToward threads requests rounds × Halts rounds p before after
 
--- an input begins with these frames
-pub record BeginsWith (input : Option (List ℕ)) (frames : List (List ℕ)) : Type 0 where
-  pub left : Option (List ℕ)
-  pub state : State
-  pub reads : Reads input left frames state
-
 -- of an input read so far, further requests were answered, up to an error
-abbrev pub HaltsOn : Bool → Option (List ℕ) → State → Point → Option (List ℕ) → Option (List ℕ) → Type 0
+abbrev pub HaltsOn : Option ResponseOrder → Option (List ℕ) → State → Point → Option (List ℕ) → Option (List ℕ) → Type 0
 HaltsOn threads left s p before after = (input : Option (List ℕ)) (frames : List (List ℕ)) → Reads input left frames s
     → (more : List (List ℕ)) × BeginsWith input (frames ++ more) × HaltsToward threads (requests more) p before after
 
 -- the first of these requests were answered, with advices sent between them, and some of the others, up to an error
-pub record HaltsLater (step : AdviceStep) (threads : Bool) (all : List Pairs) (x : Stage) (after : Option (List ℕ)) : Type 0 where
+pub record HaltsLater (step : AdviceStep) (threads : Option ResponseOrder) (all : List Pairs) (x : Stage) (after : Option (List ℕ)) : Type 0 where
   pub first : List Pairs
   pub later : List Pairs
   pub order : all ≡ first ++ later
@@ -87,8 +88,16 @@ pub record HaltsLater (step : AdviceStep) (threads : Bool) (all : List Pairs) (x
   pub advances : Advances step rounds x reached
   pub halts : HaltsToward threads later reached.point reached.out after
 
+-- Of an input so much was heard that these came of it; of what may come next some requests were answered, up to an error.
+pub record HaltsHeard (order : ResponseOrder) (input : Option (List ℕ)) (got : List Arrival) (p : Point) (before after : Option (List ℕ)) : Type 0 where
+  pub frames : List (List ℕ)
+  pub begins : BeginsWith input frames
+  pub later : List Pairs
+  pub requests_are : requests frames ≡ requests_of got ++ later
+  pub halts : HaltsToward (Some order) later p before after
+
 -- requests at the beginning of an input were answered, up to an error
-pub record StopsWithin (step : AdviceStep) (threads : Bool) (input : Option (List ℕ)) (x : Stage) (after : Option (List ℕ)) : Type 0 where
+pub record StopsWithin (step : AdviceStep) (threads : Option ResponseOrder) (input : Option (List ℕ)) (x : Stage) (after : Option (List ℕ)) : Type 0 where
   pub frames : List (List ℕ)
   pub begins : BeginsWith input frames
   pub halts : HaltsLater step threads (requests frames) x after
@@ -99,21 +108,8 @@ pub record DrainsSome (p : Point) (before after : Option (List ℕ)) : Type 0 wh
   pub retries : AllByRecursion IsRetry rounds
   pub halts : Halts rounds p before after
 
--- the responses were given; then the queue and the shelf were emptied, up to an error
-pub record Given (p : Point) (before after : Option (List ℕ)) : Type 0 where
-  pub text : List ℕ
-  pub framed : AreFramed text (responses (unanswered p))
-  pub between : Option (List ℕ)
-  pub gives : Appends before between text
-  pub drains : DrainsSome (all_answered p) between after
-
--- what comes after a batch that was run: of its responses a beginning is written; or all are, and the shelf was run up to an
--- error
-abbrev pub Unfinished : Point → Option (List ℕ) → Option (List ℕ) → Type 0
-Unfinished p before after = GivesSome p before after ⊎ Given p before after
-
 -- all requests of an input were answered; then the queue and the shelf were emptied, up to an error
-pub record StopsAfter (step : AdviceStep) (threads : Bool) (input : Option (List ℕ)) (x : Stage) (after : Option (List ℕ)) : Type 0 where
+pub record StopsAfter (step : AdviceStep) (threads : Option ResponseOrder) (input : Option (List ℕ)) (x : Stage) (after : Option (List ℕ)) : Type 0 where
   pub end : StreamEnd
   pub frames : List (List ℕ)
   pub read : ReadTo end input frames
@@ -124,7 +120,7 @@ pub record StopsAfter (step : AdviceStep) (threads : Bool) (input : Option (List
   pub drains : DrainsSome served.point served.out after
 
 -- the history may be cut, and what an input has was served, up to an error
-pub record Serving (step : AdviceStep) (threads : Bool) (input : Option (List ℕ)) (p : Point) (advisor : PlainAdvisor) (before after : Option (List ℕ)) :
+pub record Serving (step : AdviceStep) (threads : Option ResponseOrder) (input : Option (List ℕ)) (p : Point) (advisor : PlainAdvisor) (before after : Option (List ℕ)) :
     Type 0 where
   pub begun : Point
   pub cut : List Line
@@ -133,16 +129,16 @@ pub record Serving (step : AdviceStep) (threads : Bool) (input : Option (List �
   pub serves : StopsWithin step threads input (stage advisor begun before) after ⊎ StopsAfter step threads input (stage advisor begun before) after
 
 -- nothing was written, or what an input has was served, up to an error
-abbrev pub ServesSome : AdviceStep → Bool → Option (List ℕ) → Point → PlainAdvisor → Option (List ℕ) → Option (List ℕ) → Type 0
+abbrev pub ServesSome : AdviceStep → Option ResponseOrder → Option (List ℕ) → Point → PlainAdvisor → Option (List ℕ) → Option (List ℕ) → Type 0
 ServesSome step threads input p advisor before after = Keeps before after ⊎ Serving step threads input p advisor before after
 
 -- after a run has begun, with or without an input: what that has was served, or the lines of the history were printed, up to an error
-abbrev pub GoesOnSome : AdviceStep → Bool → Option (Option (List ℕ)) → Point → PlainAdvisor → Option (List ℕ) → Option (List ℕ) → Type 0
+abbrev pub GoesOnSome : AdviceStep → Option ResponseOrder → Option (Option (List ℕ)) → Point → PlainAdvisor → Option (List ℕ) → Option (List ℕ) → Type 0
 GoesOnSome step threads None p advisor before after = AppendsBeginning before after (written_as Text (lines_in (world_at p)))
 GoesOnSome step threads (Some input) p advisor before after = ServesSome step threads input p advisor before after
 
 -- a run with an input recovered, and served up to an error
-pub record Stopped (step : AdviceStep) (sender : PlainSender) (most : ℕ) (threads : Bool) (f : Flow) (sessions : ℕ) (j : Seen)
+pub record Stopped (step : AdviceStep) (sender : PlainSender) (most : ℕ) (threads : Option ResponseOrder) (f : Flow) (sessions : ℕ) (j : Seen)
     (input before after : Option (List ℕ)) : Type 0 where
   pub recovered : Point
   pub begins : Begins f sessions j recovered
@@ -155,10 +151,10 @@ pub record Unprinted (f : Flow) (sessions : ℕ) (j : Seen) (before after : Opti
   pub written : AppendsBeginning before after (written_as Text (lines_in (world_at recovered)))
 
 -- a run, with or without an input, recovered, and then ended with an error
-abbrev pub StopsWith : AdviceStep → PlainSender → ℕ → Bool → Option (Option (List ℕ)) → Flow → ℕ → Seen → Option (List ℕ) → Option (List ℕ) → Type 0
+abbrev pub StopsWith : AdviceStep → PlainSender → ℕ → Option ResponseOrder → Option (Option (List ℕ)) → Flow → ℕ → Seen → Option (List ℕ) → Option (List ℕ) → Type 0
 StopsWith step sender most threads None f sessions j before after = Unprinted f sessions j before after
 StopsWith step sender most threads (Some input) f sessions j before after = Stopped step sender most threads f sessions j input before after
 
 -- a run, with or without an input, ended with an error: before anything was written, or as above
-abbrev pub IsStopped : AdviceStep → PlainSender → ℕ → Bool → Option (Option (List ℕ)) → Flow → ℕ → Seen → Option (List ℕ) → Option (List ℕ) → Type 0
+abbrev pub IsStopped : AdviceStep → PlainSender → ℕ → Option ResponseOrder → Option (Option (List ℕ)) → Flow → ℕ → Seen → Option (List ℕ) → Option (List ℕ) → Type 0
 IsStopped step sender most threads input f sessions j before after = Keeps before after ⊎ StopsWith step sender most threads input f sessions j before after

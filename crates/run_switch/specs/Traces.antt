@@ -1,20 +1,19 @@
 -- What a run writes to standard error: the lines of the trace, and between them a line for each message that is passed over, lines of
 -- numbers, and lines in words, where they are wanted.
-use Rattle.std.specs.Prelude.{◌≡◌, ◌<◌, ℕ, ◌+◌, ◌^◌, Bool, true, false, ◌||◌, List, [], ◌∷◌, ◌++◌, Option, Some, None, is_some, Result, Ok, Err, codes}
+use Rattle.std.specs.Prelude.{◌≡◌, ◌<◌, ℕ, ◌+◌, ◌^◌, Bool, true, false, ◌||◌, List, [], ◌∷◌, ◌++◌, Option, Some, None, is_some, codes}
 use Rattle.std.specs.Fmt.{decimal}
 use Rattle.std.specs.Io.KnownBytes.{Appends}
-use Rattle.sw_frame.specs.Stream.{AreFramed}
-use Rattle.iso_msg.specs.Messages.{PlainMessage}
-use Rattle.iso_codec.specs.declared.error.DecodeError.{DecodeError}
-use Rattle.iso_codec.specs.Reads.{read}
 use Rattle.sw_stats.specs.Line.{Numbers, stats_line}
 use Rattle.tx_engine.specs.World.{World}
+use Rattle.sw_context.specs.Pairs.{Pairs}
+use Rattle.run_input.specs.declared.arrival.Arrival.{Arrival}
+use Rattle.run_input.specs.Arrivals.{passed_of, requests_of}
+use Rattle.run_responses.specs.declared.sink.ResponseOrder.{ResponseOrder}
 use Rattle.run_switch.specs.declared.reporter.LineForm.{LineForm}
 use Rattle.run_switch.specs.declared.reporter.Reporter.{Reporter}
 use Rattle.run_switch.specs.Lines.{Line, written_as}
-use Rattle.run_switch.specs.Points.{Point, all_answered, responses, unanswered}
+use Rattle.run_switch.specs.Points.{Point, all_answered}
 use Rattle.run_switch.specs.Records.{Recording, Records, recording_of}
-use Rattle.run_switch.specs.Requests.{requests}
 use Rattle.run_switch.specs.Rounds.{Drains, MayCut, Round, RoundsFor, Serves}
 
 -- lines of the trace; or the line of a message that is passed over: its number, and why; or the line of a run's numbers; or lines in
@@ -155,16 +154,6 @@ pub record IsOver (a : Log) : Type 0 where
   pub trace : a.wanted ≡ None
   pub log : a.recording.wanted ≡ false
 
--- the messages that are passed over are those that cannot be read
-abbrev pub if_passed : Result PlainMessage DecodeError → ℕ
-if_passed (Ok m) = 0
-if_passed (Err e) = 1
-
--- how many of these messages are passed over
-abbrev pub passed_over : List (List ℕ) → ℕ
-passed_over [] = 0
-passed_over (bytes ∷ more) = if_passed (read bytes) + passed_over more
-
 -- the history may be cut, and the lines of the entries that are cut were written
 pub record Cuts (p : Point) (a : Log) (q : Point) (b : Log) : Type 0 where
   pub lines : List Line
@@ -177,26 +166,33 @@ pub record Reports (rounds : List Round) (passed : ℕ) (p : Point) (before : Op
   pub serves : Serves rounds p before q after
   pub tells : Tells serves.lines passed a b
 
--- the messages of these frames were answered, or passed over
-pub record ReportsFor (threads : Bool) (frames : List (List ℕ)) (p : Point) (before : Option (List ℕ)) (a : Log) (q : Point) (after : Option (List ℕ))
-    (b : Log) : Type 0 where
+-- these requests were answered, and this many messages passed over
+pub record ReportsWith (threads : Option ResponseOrder) (requests : List Pairs) (passed : ℕ) (p : Point) (before : Option (List ℕ)) (a : Log) (q : Point)
+    (after : Option (List ℕ)) (b : Log) : Type 0 where
   pub rounds : List Round
-  pub answers : RoundsFor threads (requests frames) rounds
-  pub reports : Reports rounds (passed_over frames) p before a q after b
+  pub answers : RoundsFor threads requests rounds
+  pub reports : Reports rounds passed p before a q after b
 
 -- the queue and the shelf were emptied
 pub record DrainsAll (p : Point) (before : Option (List ℕ)) (a : Log) (q : Point) (after : Option (List ℕ)) (b : Log) : Type 0 where
   pub drains : Drains p before q after
   pub tells : Tells drains.serves.lines 0 a b
 
--- After a batch: the responses of all transactions that ended are given, the queue and the shelf are emptied, and the history
--- may be cut.
-pub record Finishes (p : Point) (before : Option (List ℕ)) (a : Log) (q : Point) (after : Option (List ℕ)) (b : Log) : Type 0 where
-  pub text : List ℕ
-  pub framed : AreFramed text (responses (unanswered p))
-  pub between : Option (List ℕ)
-  pub gives : Appends before between text
+-- After a leg: the responses of all transactions that ended are given, and this many messages are passed over; the queue and the shelf
+-- are emptied, and the history may be cut.
+pub record Finishes (passed : ℕ) (p : Point) (before : Option (List ℕ)) (a : Log) (q : Point) (after : Option (List ℕ)) (b : Log) : Type 0 where
+  pub noted : Log
+  pub tells : Tells [] passed a noted
   pub drained : Point
   pub then : Log
-  pub drains : DrainsAll (all_answered p) between a drained after then
+  pub drains : DrainsAll (all_answered p) before noted drained after then
   pub cuts : Cuts drained then q b
+
+-- A leg: what came since was answered, or passed over.
+pub record Answered (order : ResponseOrder) (before : List Arrival) (p : Point) (from : Option (List ℕ)) (a : Log) (after : List Arrival) (q : Point)
+    (to : Option (List ℕ)) (b : Log) : Type 0 where
+  pub requests : List Pairs
+  pub passed : ℕ
+  pub requests_are : requests_of after ≡ requests_of before ++ requests
+  pub passed_are : passed_of after ≡ passed_of before + passed
+  pub reports : ReportsWith (Some order) requests passed p from a q to b

@@ -188,7 +188,7 @@ impl<L: Link> Advisor<L> {
     }
 
     // The most advices that it sends between two reads.
-    fn most(&self) -> usize
+    pub(crate) fn most(&self) -> usize
         ensures { result ≡ self.now.most }
     {
         self.most

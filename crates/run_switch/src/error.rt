@@ -2,11 +2,13 @@
 
 ghost use Rattle.std.specs.Prelude.{◌≡◌};
 ghost use Rattle.run_switch.specs.Errors.{error_of_engine, error_of_io, error_of_plant};
-ghost use Rattle.run_switch.specs.Errors.{IsOfPool, error_of_fault};
+ghost use Rattle.run_switch.specs.Errors.{IsOfPool, error_of_fault, result_of};
 ghost use Rattle.run_switch.specs.declared.error.ServeError.TheVariants as serve;
 
 use cli_io::{IoError, StreamErrorText};
 use journal_store::JournalError;
+use run_input::{ReadError, StreamEnd};
+use run_responses::ResponseError;
 use sqlite::Alter;
 use std::alloc::{AllocError, AllocFailed};
 use sw_context::ContextError;
@@ -61,15 +63,18 @@ pub enum ServeError {
     /// The pool did not run.
     #[error("the pool did not run: {0}")]
     Pool(Early),
-    /// The history of a batch contradicts what its threads recorded. No batch does so. The number is the one after its
+    /// The history of a leg contradicts what its threads recorded. No leg does so. The number is the one after its
     /// last entry, or 1, as `tx_pool` has it.
-    #[error("the history of a batch contradicts what its threads recorded")]
+    #[error("the history of a leg contradicts what its threads recorded")]
     Mismatch(usize),
+    /// The responses that a leg gave are not those of the transactions that ended in it. No leg does so.
+    #[error("the responses of a leg are not those of its transactions")]
+    OtherResponses,
     /// A transaction took more steps than a transaction has, or came back from the shelf more often than it may.
     /// No transaction does.
     #[error("a transaction did not end within the steps that one has")]
     Endless,
-    /// No memory was left, or a thread of a batch could not be started.
+    /// No memory was left, or a thread could not be started.
     #[error("out of memory")]
     OutOfMemory,
 }
@@ -129,6 +134,37 @@ impl From<NoMemory> for ServeError {
     }
 }
 
+impl From<ReadError> for ServeError {
+    fn from(error: ReadError) -> ServeError {
+        match error {
+            ReadError::OutOfMemory => ServeError::OutOfMemory,
+            ReadError::Request(number, error) => ServeError::Request(number, error),
+        }
+    }
+}
+
+impl From<ResponseError> for ServeError {
+    fn from(error: ResponseError) -> ServeError {
+        match error {
+            ResponseError::Long(id) => ServeError::LongResponse(id),
+            ResponseError::Io(error) => ServeError::from(error),
+            ResponseError::OutOfMemory => ServeError::OutOfMemory,
+        }
+    }
+}
+
+/// An error, unless the stream ended whole.
+pub fn check_end(end: StreamEnd) -> Result<(), ServeError>
+    ensures { result ≡ result_of end }
+{
+    match end {
+        StreamEnd::Whole => Ok(()),
+        StreamEnd::BadLength(frame) => Err(ServeError::BadLength(frame)),
+        StreamEnd::Truncated(bytes) => Err(ServeError::Truncated(bytes)),
+        StreamEnd::Unread(error) => Err(ServeError::from(error)),
+    }
+}
+
 impl From<PlantError> for ServeError {
     ghost from_gives = { λ e f. f ≡ error_of_plant e };
 
@@ -143,7 +179,7 @@ impl From<PlantError> for ServeError {
 }
 
 impl ServeError {
-    // Why a batch was given up.
+    // Why a leg was given up.
     fn from_fault(fault: Fault) -> ServeError
         ensures { result ≡ error_of_fault fault }
     {
@@ -155,7 +191,7 @@ impl ServeError {
         }
     }
 
-    /// Why a batch was not run, or was given up.
+    /// Why a leg was not run, or was given up.
     pub(crate) fn from_pool<S: Alter + Drop>(error: PoolError<S>) -> ServeError
         ensures { IsOfPool error result }
     {

@@ -1,4 +1,4 @@
-//! `run`: answers requests in frames with responses in frames, one transaction after the other or in batches.
+//! `run`: answers requests in frames with responses in frames, one transaction after the other or many at once.
 //!
 //! [`run`] makes a plant of the switch's participants over a journal. It recovers what the journal has unfinished,
 //! then answers each request as it comes: its response is written and flushed once the last entry of its
@@ -12,9 +12,8 @@
 //! # What is proved
 //!
 //! `run` answers requests over a plant of the switch's participants, by session 0, one transaction
-//! after the other, or, with threads, in batches by all sessions where two or more come at once. Of a
-//! run that ends without an error it promises, of readers and writers whose bytes are known (`ReadTo`,
-//! `Ran`):
+//! after the other, or, with threads, in legs by all sessions at once. Of a run that ends without an
+//! error it promises, of readers and writers whose bytes are known (`ReadTo`, `Ran`):
 //!
 //! - The plant is made on the journal's view and recovers first: then nothing is left to recover, and
 //!   the queue is empty (`Begins`).
@@ -26,14 +25,13 @@
 //!   (`Completes`). The plant then keeps no context of a transaction that ended (`all_answered`). The
 //!   history may be cut, and has fewer than 524,288 entries when a request is offered (`MayCut`,
 //!   `IsReady`).
-//! - With threads, batches of 2 to 256 requests are each run by all sessions until nothing waits, no
-//!   session holds a transaction, and all is written (`Together`: one call of `drive`). The requests
-//!   are those of the input, in their order (`RoundsFor`). Then the responses of all transactions that
-//!   ended are given, ids rising (`Runs`). A request that came alone is not a batch. Session 0 runs its
-//!   transaction to its end, as without threads, and its response is given (`Lone`, `RunsLone`). A
-//!   batch or a request alone begins only when the switch is ready for it, its history not long
-//!   (`Goes`, `IsReady`). That the shelf is emptied after each of them is a fact of the functions
-//!   within (`Finishes`).
+//! - With threads, the requests are run in legs, each by all sessions until nothing waits, no session
+//!   holds a transaction, and all is written (`Together`: one call of `drive`). The requests of all legs
+//!   are those of the input, in their order (`RoundsFor`). The responses of a leg are those of all
+//!   transactions that ended, ids rising; or, in the order of ends, those that its entries ended by
+//!   `done`, each with the context that it ended with (`AreOrdered`, `Runs`). A leg begins only when the
+//!   switch is ready for it, its history not long (`Goes`, `IsReady`). That the shelf is emptied after
+//!   each of them is a fact of the functions within (`Finishes`).
 //! - Whenever advices are sent before the input has ended, they are the next ones in the order of ids
 //!   and places after the last one that was sent, or the oldest if none comes after it. They are as
 //!   many as the setup says, or all of these where there are fewer (`Between`, `due_between`). With 0
@@ -65,7 +63,7 @@
 //!   histories that are cut. Each is written once, in the order in which they ended, and nothing else
 //!   is. It is the line of the transaction's record, with some times (`Records`, `AreLines`). Where a
 //!   write failed, `RecordLog` says so, and a beginning of each line is written. As with the trace, the
-//!   history is then cut after each transaction or batch, so that its lines are there (`IsLive`). That
+//!   history is then cut after each transaction or leg, so that its lines are there (`IsLive`). That
 //!   a time is that of a clock is only tested.
 //! - Where words are wanted, the first lines are that the run is ready, and before that how many
 //!   transactions of the journal's view it committed and aborted, if there were any (`TellsRun`,
@@ -76,7 +74,8 @@
 //! frames read so far are the beginning of the input. Of the requests among them the first ones were
 //! offered and answered, each before the next, and their responses are written, in their order. Of the
 //! response of the next transaction at most a beginning is written, and only once that transaction ran
-//! to its end (`Halts`). With threads the same is said of batches (`HaltsToward`). Where all of the
+//! to its end (`Halts`). With threads the same is said of legs (`HaltsToward`), of whose responses a
+//! beginning is written: each of a transaction that had ended with its context (`AnswersSome`). Where all of the
 //! input was answered, the same holds of what the shelf had, and nothing is written after it. Without
 //! an input a beginning of the lines is written.
 //!
@@ -84,9 +83,10 @@
 //! sends the advices has the routes and the links of the setup (`sender_with`). A response over 9,999
 //! bytes ends the run with an error that names its transaction.
 //!
-//! With threads no contract says how the messages of the input are cut into batches, but for their
-//! sizes, nor that threads run: a body that answers each request as if it had come alone meets it. That
-//! several are under way at once is tested (`crush` of `tests/threads.py`).
+//! With threads no contract says when a leg ends, nor that threads run: a body whose legs have one
+//! request each meets it. That several are under way at once is tested (`crush` of `tests/threads.py`).
+//! Nor does one say when a response is written within its leg, but that the entry that ended its
+//! transaction is in the journal then (`tx_pool`).
 //!
 //! Lines of numbers before the last one stand among the pieces of `Tells`, but no contract of `run`
 //! says after which requests, nor that they have the numbers of that moment. The functions that write
@@ -127,7 +127,9 @@
 //! - **The clause of `run` asks for an Ok before it asks for the input**, so that a `?` leaves nothing
 //!   to prove of the input. Alternative: the other way round, with a case for the input at each of some
 //!   twenty returns.
-//! - **The shelf is emptied after each batch** by session 0, as `run` does it at the end.
+//! - **The shelf is emptied after each leg** by session 0, as `run` does it at the end.
+//! - **The ids of the responses that a leg gave are compared with those of its transactions** where they
+//!   leave by rising ids, so that the contract is that of a run without threads.
 //! - **Requests are counted where their responses are given**, by the contexts that their transactions
 //!   ended with, and the counts stand beside the id of the last one (`Progress`). So the relations of
 //!   all rounds carry them, and only three functions change them. They are counted without `--stats`
@@ -143,11 +145,11 @@
 #![tactic(auto)]
 
 mod advices;
-mod batches;
 mod defaults;
 mod edge;
 mod error;
 mod given;
+mod leg;
 mod progress;
 mod record_log;
 mod reporter;
@@ -156,16 +158,16 @@ mod serving;
 mod setup;
 mod stats;
 mod stream;
+mod streaming;
 mod switch;
 mod unsuited;
 mod with_records;
 
 pub use defaults::{DEFAULT_STAND_IN, default_advised, default_queried, default_routes};
 pub use edge::Edge;
-pub use error::ServeError;
+pub use error::{ServeError, check_end};
 pub use record_log::RecordLog;
 pub use reporter::{LineForm, Reporter, write_lines};
 pub use serving::run;
 pub use setup::{NamedLink, Setup, SwitchLink};
 pub use stats::Stats;
-pub use stream::StreamEnd;

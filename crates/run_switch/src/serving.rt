@@ -1,6 +1,6 @@
 //! The whole run.
 
-ghost use Rattle.std.specs.Prelude.{◌≡◌, ◌-◌, ℕ, List, [], true, false, option_map};
+ghost use Rattle.std.specs.Prelude.{◌≡◌, ◌-◌, ℕ, List, [], None, Some, option_map, true};
 ghost use Rattle.std.specs.Prelude.{IfErr, IfNone, IfOk, IfSome, OnErr, OnOk};
 ghost use Rattle.tx_engine.specs.Calls.{waits};
 ghost use Rattle.std.specs.Io.KnownBytes.{Appends};
@@ -19,10 +19,10 @@ ghost use Rattle.run_switch.specs.Points.{IsAtRest, point_of};
 ghost use Rattle.run_switch.specs.Ran.{Closes, HasBegun, Printed, Ran, ServesAll, ServesTold, all_lines};
 ghost use Rattle.run_switch.specs.Ran.{lines_cut};
 ghost use Rattle.run_switch.specs.Rounds.{Recovers, Round, RoundsFor};
-ghost use Rattle.run_switch.specs.Requests.{ReadTo, requests};
+ghost use Rattle.run_input.specs.Requests.{ReadTo, passed_over, requests};
 ghost use Rattle.run_switch.specs.Stopped.{DrainsSome, GoesOnSome, IsStopped, ServesSome};
 ghost use Rattle.run_switch.specs.Shown.{TellsAll, TellsRun, unfinished_in, unfinished_of};
-ghost use Rattle.run_switch.specs.Traces.{DrainsAll, Tells, log_of, passed_over};
+ghost use Rattle.run_switch.specs.Traces.{DrainsAll, Tells, log_of};
 ghost use Rattle.cli_io.specs.Written.{AppendsBeginning};
 ghost use Rattle.run_switch.specs.declared.reporter.LineForm.TheVariants.{Text};
 
@@ -33,16 +33,20 @@ use crate::progress::Progress;
 use crate::reporter::write_lines;
 use crate::saying::unfinished_in;
 use crate::setup::{NamedLink, Setup, SwitchLink, query_name, sender_over};
-use crate::stream::{Requests, StreamEnd};
+use crate::stream::answer_input;
+use crate::streaming::answer_stream;
 use crate::switch::Switch;
 use crate::unsuited::cause_of;
 use cli_io::IoError;
 use flow_asm::Code;
 use journal_store::Journal;
+use run_input::StreamEnd;
 use run_reports::Recovered;
+use run_responses::ResponseOrder;
 use sqlite::Alter;
 use std::alloc::Global;
 use std::io::{Read, Write};
+use std::marker::Brand;
 use std::sync::Wait;
 use std::thread::Threads;
 use std::time::Clock;
@@ -118,20 +122,19 @@ impl<S: Alter> Switch<S> {
         requires empty { waits (engine_of self.old.plant) ≡ [] }
         ensures serves { IfOk result (λ end. (frames : List (List ℕ))
             × ReadTo end (R.remaining input) frames
-            × (rounds : List Round) × RoundsFor false (requests frames) rounds
+            × (rounds : List Round) × RoundsFor None (requests frames) rounds
             × (all : ServesAll (SendsAdvice L.sends L.receives L.starves (Unit {0})) rounds
             (point_of S.Store self.old) advisor.old (O.contents out.old) (O.contents out.new))
             × (all.end ≡ point_of S.Store self.new)
             × Tells (lines_cut all) (passed_over frames)
             (log_of E.contents edge.old.stderr) (log_of E.contents edge.new.stderr)) }
         ensures stops { OnErr result (ServesSome
-            (SendsAdvice L.sends L.receives L.starves (Unit {0})) false (R.remaining input)
+            (SendsAdvice L.sends L.receives L.starves (Unit {0})) None (R.remaining input)
             (point_of S.Store self.old) advisor.old (O.contents out.old) (O.contents out.new)) }
     {
         self.cut_traced(edge)?;
         let mut input = input;
-        let mut requests = Requests::new(edge.alloc);
-        let end = requests.answer_input(edge, self, advisor, &mut input, out)?;
+        let end = answer_input(edge, self, advisor, &mut input, out)?;
         self.close(edge, advisor, out)?;
         Ok(end)
     }
@@ -159,13 +162,13 @@ impl<S: Alter> Switch<S> {
 }
 
 impl<S: Alter + Drop> Switch<S> {
-    // Answers the requests of an input in batches, each run by all sessions at once, then runs what is on the
-    // shelf, and sends the stored advices. The lines of the trace are written after each batch and at the end; the
-    // numbers of the run come last.
+    // Answers the requests of an input in legs, by all sessions at once, then runs what is on the shelf, and sends
+    // the stored advices. The lines of the trace are written after each leg and at the end; the numbers of the run
+    // come last.
     fn answer_together<
-        T: Threads + Wait + Clock + Sync,
+        T: Threads + Wait + Clock + Clone + Drop + Send + Sync + 'static,
         L: Link,
-        R: Read + Drop,
+        R: Read + Drop + Send + 'static,
         O: Write,
         E: Write,
     >(
@@ -173,26 +176,27 @@ impl<S: Alter + Drop> Switch<S> {
         edge: &mut Edge<'_, T, E>,
         advisor: &mut Advisor<L>,
         input: R,
+        order: ResponseOrder,
         out: &mut O,
     ) -> Result<StreamEnd, ServeError>
         requires rest { IsAtRest (point_of S.Store self) }
         requires empty { waits (engine_of self.plant) ≡ [] }
         ensures serves { IfOk result (λ end. (frames : List (List ℕ))
             × ReadTo end (R.remaining input) frames
-            × (rounds : List Round) × RoundsFor true (requests frames) rounds
+            × (rounds : List Round) × RoundsFor (Some order) (requests frames) rounds
             × (all : ServesAll (SendsAdvice L.sends L.receives L.starves (Unit {0})) rounds
             (point_of S.Store self) advisor.old (O.contents out.old) (O.contents out.new))
             × TellsAll (all_lines all) (passed_over frames) all.end
             (log_of E.contents edge.old.stderr) (log_of E.contents edge.new.stderr)) }
         ensures stops { OnErr result (ServesSome
-            (SendsAdvice L.sends L.receives L.starves (Unit {0})) true (R.remaining input)
+            (SendsAdvice L.sends L.receives L.starves (Unit {0})) (Some order) (R.remaining input)
             (point_of S.Store self) advisor.old (O.contents out.old) (O.contents out.new)) }
     {
         let mut switch = self;
         switch.cut_traced(edge)?;
-        let mut input = input;
-        let mut requests = Requests::new(edge.alloc);
-        let served = requests.answer_in_batches(edge, switch, advisor, &mut input, out)?;
+        let served = answer_stream::<S, T, Brand, L, R, O, E>(
+            edge, switch, advisor, input, order, out,
+        )?;
         let (mut switch, end) = served;
         let closed = switch.close(edge, advisor, out);
         let traced = edge.stderr.trace(edge.alloc, switch.engine());
@@ -236,7 +240,7 @@ struct Over<S: Alter, R: Read, L: Link> {
     sender: Sender<L>,
     advices: usize,
     sessions: usize,
-    threads: bool,
+    threads: Option<ResponseOrder>,
 }
 
 impl<S: Alter + Drop, R: Read + Drop, L: Link> Drop for Over<S, R, L> {
@@ -252,11 +256,11 @@ impl<S: Alter + Drop, R: Read + Drop, L: Link> Drop for Over<S, R, L> {
     }
 }
 
-impl<S: Alter + Drop, R: Read + Drop, L: Link> Over<S, R, L> {
+impl<S: Alter + Drop, R: Read + Drop + Send + 'static, L: Link> Over<S, R, L> {
     // The run over the stations that were made: makes the plant, finishes what the journal has unfinished, and goes on.
     // (Apart, so that its proof does not carry how the stations are made. No function hands the plant out, since its
     // stations would hide from contracts whose they are.)
-    fn run<T: Threads + Wait + Clock + Sync, O: Write, E: Write>(
+    fn run<T: Threads + Wait + Clock + Clone + Drop + Send + Sync + 'static, O: Write, E: Write>(
         self,
         edge: &mut Edge<'_, T, E>,
         code: &Code,
@@ -318,7 +322,7 @@ struct Begun<S: Alter, R: Read, L: Link> {
     advisor: Advisor<L>,
     unfinished: Recovered,
     input: Option<R>,
-    threads: bool,
+    threads: Option<ResponseOrder>,
 }
 
 // Written out, so that no caller proves again how its parts are dropped.
@@ -334,9 +338,9 @@ impl<S: Alter + Drop, R: Read + Drop, L: Link> Drop for Begun<S, R, L> {
     }
 }
 
-impl<S: Alter + Drop, R: Read + Drop, L: Link> Begun<S, R, L> {
+impl<S: Alter + Drop, R: Read + Drop + Send + 'static, L: Link> Begun<S, R, L> {
     // Answers the requests of the input, or prints the lines of the history if there is none.
-    fn go_on<T: Threads + Wait + Clock + Sync, O: Write, E: Write>(
+    fn go_on<T: Threads + Wait + Clock + Clone + Drop + Send + Sync + 'static, O: Write, E: Write>(
         self,
         edge: &mut Edge<'_, T, E>,
         out: &mut O,
@@ -372,8 +376,8 @@ impl<S: Alter + Drop, R: Read + Drop, L: Link> Begun<S, R, L> {
         let mut switch = switch;
         let mut advisor = advisor;
         edge.stderr.say_ready(edge.alloc, unfinished);
-        if threads {
-            return switch.answer_together(edge, &mut advisor, input, out);
+        if let Some(order) = threads {
+            return switch.answer_together(edge, &mut advisor, input, order, out);
         }
         let served = switch.answer_in_turn(edge, &mut advisor, input, out);
         let traced = edge.stderr.trace(edge.alloc, switch.engine());
@@ -413,12 +417,14 @@ fn named(
 /// end, even if the run ends early. If the stream of frames is refused, what came before is answered, and the run
 /// then ends as it would after a whole input.
 ///
-/// With threads the requests are answered in batches of those that have come, at most 256 at once; the lines
-/// of the trace are written after each batch. Those of a batch that was given up are lost.
+/// With threads requests are offered as they come, and each response is written once its transaction is in the journal:
+/// by rising ids, or as the transactions end. The sessions run in legs. A leg ends once nothing is under way and nothing
+/// comes, or with its history; then the shelf is run, the lines of the trace are written, and stored advices are sent.
+/// The lines of a leg that was given up are lost.
 ///
 /// If standard error wants the numbers of the run, they are written each time that many more requests are answered (with
-/// threads, after the batch in which this happens), and at the end. If it wants words, it is written that the run is
-/// ready, before the first read, and after each request, or each batch, what has become new of the hosts.
+/// threads, after the leg in which this happens), and at the end. If it wants words, it is written that the run is
+/// ready, before the first read, and after each request, or each leg, what has become new of the hosts.
 ///
 /// A failed write to standard error is not an error of the run: its result is as if all had been written there.
 ///
@@ -428,7 +434,13 @@ fn named(
 /// have (`DoubleStation`).
 ///
 /// The stations are made here; no caller has one of them.
-pub fn run<S: Alter + Drop, T: Threads + Wait + Clock + Sync, R: Read + Drop, O: Write, E: Write>(
+pub fn run<
+    S: Alter + Drop,
+    T: Threads + Wait + Clock + Clone + Drop + Send + Sync + 'static,
+    R: Read + Drop + Send + 'static,
+    O: Write,
+    E: Write,
+>(
     edge: &mut Edge<'_, T, E>,
     code: &Code,
     journal: Journal<S>,

@@ -3,6 +3,7 @@
 ghost use Rattle.std.specs.Prelude.{◌≡◌, IfOk, string_bytes};
 ghost use Rattle.run_switch.specs.Links.{query_name, sender_with};
 
+use run_responses::ResponseOrder;
 use std::alloc::{AllocError, Global};
 use sw_book::Book;
 use sw_hosts::IssuerLink;
@@ -43,8 +44,8 @@ pub struct Setup<L: Link> {
     pub advices: usize,
     /// How many sessions the engine has, 1 to 16.
     pub sessions: usize,
-    /// Whether the sessions run as threads. If not, session 0 runs each transaction.
-    pub threads: bool,
+    /// Whether the sessions run as threads, and then in which order the responses leave. If not, session 0 runs each transaction.
+    pub threads: Option<ResponseOrder>,
     /// The clock by which it is noted how long an issuer took; `None` if nobody wants to know.
     pub timed: Option<HostRuntime>,
 }

@@ -52,6 +52,19 @@ impl Stats {
 }
 
 impl<'a, E: Write, K: Clock> Reporter<'a, E, K> {
+    /// How many requests may be answered before a line is due, if `now` of them were answered.
+    pub(crate) fn requests_left(&self, now: u64) -> u64 {
+        match self.stats {
+            Some(
+                Stats {
+                    every: Some(every),
+                    ..
+                },
+            ) if every > 0 => every - now % every,
+            _ => u64::MAX,
+        }
+    }
+
     // Whether a line is due once `now` requests are answered, if `before` of them were answered earlier.
     fn is_due(&self, before: u64, now: u64) -> bool
         ensures { result ≡ is_due (every_of self.now.stats) before now }

@@ -1,24 +1,29 @@
 //! The plant of the switch, one transaction after the other.
 
-ghost use Rattle.std.specs.Prelude.{◌≡◌, ◌≤◌, ◌∷◌, List, ℕ, [], Option, IfOk, OnErr, OnOk, true};
+ghost use Rattle.std.specs.Prelude.{◌≡◌, ◌≤◌, ◌∷◌, ◌++◌, List, ℕ, [], Option, IfErr, IfOk, OnErr, OnOk, map, true};
 ghost use Rattle.std.specs.Io.KnownBytes.{Appends};
 ghost use Rattle.sw_context.specs.Pairs.{Pairs};
 ghost use Rattle.sw_frame.specs.Stream.{AreFramed};
 ghost use Rattle.tx_engine.specs.Calls.{waits};
 ghost use Rattle.tx_seats.specs.Seated.{Seated};
-ghost use Rattle.tx_plant.specs.Wholes.{engine_of};
-ghost use Rattle.run_switch.specs.Points.{IsAtRest, IsReady, RestsGiven, all_answered, point_of};
-ghost use Rattle.run_switch.specs.Points.{responses, unanswered};
-ghost use Rattle.run_switch.specs.Rounds.{Completed, Does, IsDone, Lone, Together, Transacts};
+ghost use Rattle.tx_pool.specs.Sinks.{SinkTook};
+ghost use Rattle.tx_plant.specs.Wholes.{core_of, engine_of};
+ghost use Rattle.run_switch.specs.Points.{IsAtRest, IsReady, RestsGiven, all_answered, ended_at, point_of};
+ghost use Rattle.run_responses.specs.Giving.{AreFound};
+ghost use Rattle.run_responses.specs.Responses.{responses};
+ghost use Rattle.run_switch.specs.Points.{unanswered};
+ghost use Rattle.run_switch.specs.Led.{TookSome};
+ghost use Rattle.run_switch.specs.Rounds.{Completed, Does, IsDone, Together, Transacts};
 ghost use Rattle.run_switch.specs.Rounds.{answering};
 ghost use Rattle.run_switch.specs.Stopped.{GivesSome, Halts};
 ghost use Rattle.run_switch.specs.Traces.{Cuts, IsLive, IsOver, Reports, log_of};
 
 use crate::edge::Edge;
 use crate::error::ServeError;
-use crate::given::{count_above, last_above, text_above};
+use crate::given::{count_above, last_above};
 use crate::progress::Progress;
 use cli_io::write_out;
+use run_responses::{are_given, text_above};
 use sqlite::Alter;
 use std::alloc::Global;
 use std::io::Write;
@@ -27,13 +32,13 @@ use std::thread::Threads;
 use std::time::Clock;
 use sw_context::Context;
 use tx_engine::Engine;
-use tx_intake::Listed;
+use tx_intake::Source;
 use tx_plant::{Outcome, Plant, Turn};
-use tx_pool::{Open, Pool};
+use tx_pool::{Open, Pool, Sink, Streams};
 
 /// A history of this many entries is cut between two transactions. Contracts do not know this number, which keeps
 /// a long run small, but only a bound: half of what a history may have.
-const MANY_ENTRIES: usize = 8_192;
+pub(crate) const MANY_ENTRIES: usize = 8_192;
 
 // From how many entries on a history is cut between two transactions. With the trace or the log it is cut each time,
 // so that all lines of a transaction are written, each once, before the next one is offered.
@@ -44,13 +49,13 @@ fn entries_kept(live: bool) -> usize
     if live { 1 } else { MANY_ENTRIES }
 }
 
-/// The most requests of a batch, and the capacity of its intake.
-pub(crate) const MAX_BATCH: usize = 256;
+/// The most requests of a leg that are offered and not taken.
+const MOST_OFFERED: usize = 256;
 
 /// More steps than a transaction has: 1,000 answers and choices, then as many tolds.
 const MAX_STEPS: usize = 2_002;
 
-/// The plant of the switch over a journal, driven by session 0, except for batches. After each of its calls all
+/// The plant of the switch over a journal, driven by session 0, except in legs. After each of its calls all
 /// entries are written, unless it is refused.
 pub(crate) struct Switch<S: Alter> {
     pub(crate) plant: Plant<S>,
@@ -68,23 +73,27 @@ impl<S: Alter + Drop> Drop for Switch<S> {
 }
 
 impl<S: Alter + Drop> Switch<S> {
-    /// Runs the requests as a batch, by all sessions at once. If the batch is given up, the switch is lost with
-    /// it.
-    pub(crate) fn run_together<T: Threads + Wait + Sync>(
+    /// Runs a leg: the requests of a source, by all sessions at once. What ends goes to the sink. If the leg is given up, the
+    /// switch is lost with it.
+    pub(crate) fn run_leg<F: Source + Send, Z: Sink, T: Threads + Wait + Sync>(
         self,
         rt: &T,
         alloc: Global,
-        requests: Vec<Context>,
-    ) -> Result<Switch<S>, ServeError>
+        streams: Streams<F, Z>,
+    ) -> Result<(Switch<S>, Streams<F, Z>), (ServeError, Z)>
         requires { IsAtRest (point_of S.Store self) }
-        ensures { IfOk result (λ switch. Together requests.items
-            (point_of S.Store self) (point_of S.Store switch)) }
+        ensures together { IfOk result (λ done. (requests : List Pairs)
+            × (F.given done.1.source ≡ F.given streams.source ++ requests)
+            × Together requests (point_of S.Store self) (point_of S.Store done.0)) }
+        ensures took { IfOk result (λ done. SinkTook Z.takes
+            (engine_of self.plant) (core_of done.0.plant) streams.sink done.1.sink) }
+        ensures some { IfErr result (λ e. TookSome Z.takes (core_of self.plant) streams.sink e.1) }
     {
         let Switch { plant, answered } = self;
         plant.engine_is_sound();
-        match Pool::run(rt, alloc, plant, Listed::new(requests), MAX_BATCH, &Open) {
-            Ok((plant, _, _)) => Ok(Switch { plant, answered }),
-            Err(error) => Err(ServeError::from_pool(error)),
+        match Pool::run_into(rt, alloc, plant, streams, MOST_OFFERED, &Open) {
+            Ok((plant, streams, _)) => Ok((Switch { plant, answered }, streams)),
+            Err((error, sink)) => Err((ServeError::from_pool(error), sink)),
         }
     }
 }
@@ -141,19 +150,31 @@ impl<S: Alter> Switch<S> {
         Err(ServeError::Endless)
     }
 
-    /// Runs the transaction of a request that came alone to its end.
-    pub(crate) fn run_alone(&mut self, alloc: Global, request: Context) -> Result<(), ServeError>
-        requires ready { IsReady (point_of S.Store self.old) }
-        ensures lone { OnOk result ((own : Option Pairs) × Lone request
-            (point_of S.Store self.old) own (point_of S.Store self.new)) }
-        ensures rests { OnOk result (RestsGiven (point_of S.Store self.new)) }
+    /// Whether these are the ids of the transactions that ended and whose responses were not given yet, ids rising.
+    pub(crate) fn has_given(&self, given: &[u64]) -> bool
+        ensures { result ≡ true → (list : List (ℕ × Pairs)) → map (λ e. e.0) list ≡ given.now
+            → AreFound (ended_at (point_of S.Store self.now)) list
+            → list ≡ unanswered (point_of S.Store self.now) }
     {
-        self.act(alloc, Turn::Offer(request))?;
-        self.run_next(alloc)
+        are_given(self.plant.ended(), self.answered.last, given)
+    }
+
+    /// Counts the responses of the transactions that ended since. Then the contexts of all transactions that ended are
+    /// dropped, so that a long run keeps none of them.
+    pub(crate) fn note_given(&mut self, alloc: Global) -> Result<(), ServeError>
+        requires rests { RestsGiven (point_of S.Store self.old) }
+        ensures answered { OnOk result (point_of S.Store self.new
+            ≡ all_answered (point_of S.Store self.old)) }
+        ensures rest { OnOk result (IsAtRest (point_of S.Store self.new)) }
+    {
+        let last = self.answered.last;
+        count_above(alloc, &mut self.answered.counts, self.plant.ended(), last)?;
+        self.answered.last = last_above(self.plant.ended(), last);
+        let _given = self.plant.take_ended(alloc);
+        Ok(())
     }
 
     /// Writes the responses that were not given yet, those of the transactions that ended since, and counts them.
-    /// Then the contexts of all transactions that ended are dropped, so that a long run keeps none of them.
     pub(crate) fn give<O: Write>(&mut self, alloc: Global, out: &mut O) -> Result<(), ServeError>
         requires rests { RestsGiven (point_of S.Store self.old) }
         ensures gives { OnOk result ((text : List ℕ)
@@ -165,13 +186,9 @@ impl<S: Alter> Switch<S> {
             (O.contents out.old) (O.contents out.new)) }
         ensures rest { OnOk result (IsAtRest (point_of S.Store self.new)) }
     {
-        let last = self.answered.last;
-        let text = text_above(alloc, self.plant.ended(), last)?;
+        let text = text_above(alloc, self.plant.ended(), self.answered.last)?;
         write_out(out, &text)?;
-        count_above(alloc, &mut self.answered.counts, self.plant.ended(), last)?;
-        self.answered.last = last_above(self.plant.ended(), last);
-        let _given = self.plant.take_ended(alloc);
-        Ok(())
+        self.note_given(alloc)
     }
 
     // Cuts a history between two transactions, if it is long or its lines are wanted; these are written first.

@@ -1,7 +1,7 @@
 use Rattle.std.proofs.Common.{◌-◌, arith, refl, sym, ap, length}
 use Rattle.std.specs.Map.{keys_of}
-use Rattle.run_switch.specs.Points.{last_id}
-use Rattle.run_switch.proofs.Ended.{last_is_above, none_above, none_above_more}
+use Rattle.run_responses.specs.Responses.{last_id}
+use Rattle.run_responses.proofs.Ended.{last_is_above, none_above, none_above_more}
 use Rattle.run_switch.proofs.given.last_above.Goals as goal
 
 pub returns-in-Some : goal.returns-in-Some

@@ -1,27 +1,28 @@
-use Rattle.std.proofs.Common.{◌≡◌, ℕ, Bool, List, Option, Result, IfOk, IfSome, OnErr, inl, subst}
+use Rattle.std.proofs.Common.{◌≡◌, ℕ, List, Option, Result, IfOk, IfSome, OnErr, inl, subst}
 use Rattle.flow_model.specs.declared.flow.Flow.{Flow}
 use Rattle.sw_parts.specs.declared.route.Routing.{Routing}
 use Rattle.sw_issuers.specs.declared.sender.GroupLink.{GroupLink}
 use Rattle.sw_issuers.specs.Sending.{PlainSender}
 use Rattle.tx_plant.specs.Plant.{Seen}
+use Rattle.run_responses.specs.declared.sink.ResponseOrder.{ResponseOrder}
 use Rattle.run_switch.specs.Advices.{AdviceStep}
 use Rattle.run_switch.specs.Links.{sender_with}
 use Rattle.run_switch.specs.Ran.{Ran, all_lines}
-use Rattle.run_switch.specs.Requests.{ReadTo, requests}
+use Rattle.run_input.specs.Requests.{ReadTo, passed_over, requests}
 use Rattle.run_switch.specs.Rounds.{Round, RoundsFor}
 use Rattle.run_reports.specs.declared.Words.{Words}
 use Rattle.run_switch.specs.Shown.{TellsRun, unfinished_in}
 use Rattle.run_switch.specs.Stopped.{IsStopped}
-use Rattle.run_switch.specs.Traces.{Log, passed_over}
+use Rattle.run_switch.specs.Traces.{Log}
 use Rattle.run_switch.specs.declared.error.ServeError.{ServeError}
-use Rattle.run_switch.specs.declared.stream.StreamEnd.{StreamEnd}
+use Rattle.run_input.specs.declared.frames.StreamEnd.{StreamEnd}
 use Rattle.std.proofs.KnownBytes.{Keeps-refl}
 use Rattle.run_switch.proofs.Names.{check_good, forward_good, limits_good, respond_good, reverse_good, route_good, standin_good}
 use Rattle.run_switch.proofs.Stops.{on_err_of}
 use Rattle.run_switch.proofs.serving.run.Goals as goal
 
 -- what a run promises, of the sender that it was given
-abbrev RanBy : {R : Type 0} → Result StreamEnd ServeError → Option R → (R → Option (List ℕ)) → Bool → Flow → ℕ → Seen → AdviceStep → ℕ → Option (List ℕ) →
+abbrev RanBy : {R : Type 0} → Result StreamEnd ServeError → Option R → (R → Option (List ℕ)) → Option ResponseOrder → Flow → ℕ → Seen → AdviceStep → ℕ → Option (List ℕ) →
     Option (List ℕ) → Option Words → Log → Log → PlainSender → Type 0
 RanBy r input remaining threads f n j step most a b words k l sender =
     IfOk r (λ end. IfSome input (λ reader. (frames : List (List ℕ)) × ReadTo end (remaining reader) frames × (rounds : List Round)
@@ -29,7 +30,7 @@ RanBy r input remaining threads f n j step most a b words k l sender =
     × (ran : Ran f n j step sender most rounds a b)
     × TellsRun words (unfinished_in ran.begins.view) (all_lines ran.serves) (passed_over frames) ran.serves.end k l))
 
-of_sender : {R : Type 0} (r : Result StreamEnd ServeError) (input : Option R) (remaining : R → Option (List ℕ)) (threads : Bool) (f : Flow) (n : ℕ)
+of_sender : {R : Type 0} (r : Result StreamEnd ServeError) (input : Option R) (remaining : R → Option (List ℕ)) (threads : Option ResponseOrder) (f : Flow) (n : ℕ)
     (j : Seen) (step : AdviceStep) (most : ℕ) (a b : Option (List ℕ)) (words : Option Words) (k l : Log)
     (s t : PlainSender) → s ≡ t → RanBy r input remaining threads f n j step most a b words k l s
     → RanBy r input remaining threads f n j step most a b words k l t
@@ -45,7 +46,7 @@ returns-clause-ran g c = of_sender c.run.result c.args.input g.R.Read.remaining 
     (over_same_routes _ _ _ _ _ c.in_ok-sender_over.ensures c.as_slice.ensures) c.run.ensures.ran
 
 -- and where it ends with an error
-stopped_by : (r : Result StreamEnd ServeError) (step : AdviceStep) (most : ℕ) (threads : Bool) (input : Option (Option (List ℕ))) (f : Flow) (n : ℕ)
+stopped_by : (r : Result StreamEnd ServeError) (step : AdviceStep) (most : ℕ) (threads : Option ResponseOrder) (input : Option (Option (List ℕ))) (f : Flow) (n : ℕ)
     (j : Seen) (a b : Option (List ℕ)) (s t : PlainSender)
     → s ≡ t → OnErr r (IsStopped step s most threads input f n j a b) → OnErr r (IsStopped step t most threads input f n j a b)
 stopped_by r step most threads input f n j a b s t is h = subst (λ (z : PlainSender). OnErr r (IsStopped step z most threads input f n j a b)) is h

@@ -3,8 +3,8 @@ use Rattle.journal_store.specs.Kept.{kept}
 use Rattle.sw_frame.specs.Feeds.{messages}
 use Rattle.run_switch.specs.Points.{IsReady, point}
 use Rattle.run_switch.specs.Rounds.{answering}
-use Rattle.run_switch.specs.Traces.{Reports, log_of, passed_over}
-use Rattle.run_switch.specs.Requests.{requests}
+use Rattle.run_switch.specs.Traces.{Reports, log_of}
+use Rattle.run_input.specs.Requests.{passed_over, requests}
 use Rattle.run_switch.proofs.stream.answer_messages.Given as goal
 
 abbrev pub invariant-loop-message : goal.invariant-loop-message

@@ -1,11 +1,11 @@
-use Rattle.std.proofs.Common.{true, false, inr, subst}
+use Rattle.std.proofs.Common.{Some, None, inr, subst}
 use Rattle.cli_io.specs.Written.{AppendsBeginning}
 use Rattle.std.specs.Io.KnownBytes.{Appends}
 use Rattle.tx_engine.specs.World.{World}
 use Rattle.run_switch.specs.declared.reporter.LineForm.TheVariants.{Text}
 use Rattle.run_switch.specs.Lines.{lines_in, written_as}
-use Rattle.run_switch.specs.Requests.{requests}
-use Rattle.run_switch.proofs.Batched.{for_these, some_for}
+use Rattle.run_input.specs.Requests.{requests}
+use Rattle.run_switch.proofs.LegRounds.{for_these, some_for}
 use Rattle.run_switch.proofs.Rounds.{if_ok, none_none, some_ok}
 use Rattle.run_switch.proofs.Runs.{through_both, told_last, told_ready}
 use Rattle.run_switch.proofs.Halted.{goes_none, goes_some, served_all}
@@ -23,20 +23,20 @@ answer_together-requires-clause-rest g c = λ κs within. c.requires.rest
 pub answer_together-requires-clause-empty : goal.answer_together-requires-clause-empty
 answer_together-requires-clause-empty g c = λ κs within. c.requires.empty
 
-pub returns-then-threads-clause-serves : goal.returns-then-threads-clause-serves
-returns-then-threads-clause-serves g c =
+pub returns-in-Some-threads-clause-serves : goal.returns-in-Some-threads-clause-serves
+returns-in-Some-threads-clause-serves g c =
     if_ok c.answer_together.result (λ end served. some_ok _ c.args.self.input c.in-Some.input c.in-Some.is (
       served.0,
       served.1,
       served.2,
-      for_these c.args.self.threads true (requests served.0) served.2 c.if-threads.true served.3,
+      for_these c.args.self.threads (Some c.in-Some-threads.order) (requests served.0) served.2 c.in-Some-threads.is served.3,
       told_ready _ _ _ _ _ _ _ _ _ _ _ _ c.say_ready.ensures (served.4, served.5),
     )) c.answer_together.ensures.serves
 
-pub returns-then-threads-clause-stops : goal.returns-then-threads-clause-stops
-returns-then-threads-clause-stops g c =
+pub returns-in-Some-threads-clause-stops : goal.returns-in-Some-threads-clause-stops
+returns-in-Some-threads-clause-stops g c =
     on_err c.answer_together.result (λ some. goes_some _ c.args.self.threads g.R.Read.remaining c.args.self.input c.in-Some.input _ _ _ _ c.in-Some.is
-    (some_for _ c.args.self.threads true _ _ _ _ _ c.if-threads.true some)) c.answer_together.ensures.stops
+    (some_for _ c.args.self.threads (Some c.in-Some-threads.order) _ _ _ _ _ c.in-Some-threads.is some)) c.answer_together.ensures.stops
 
 pub returns-clause-serves : goal.returns-clause-serves
 returns-clause-serves g c =
@@ -45,7 +45,7 @@ returns-clause-serves g c =
       served.0,
       served.1,
       served.2,
-      for_these c.args.self.threads false (requests served.0) served.2 c.if-threads.false served.3,
+      for_these c.args.self.threads None (requests served.0) served.2 c.in_default-threads.is served.3,
       told_ready _ _ _ _ _ _ _ _ _ _ _ _ c.say_ready.ensures
           (told_last _ _ _ _ _ _ _ _ _ _ _ _ _ served.4 served.5 c.engine-2.ensures served.6 left c.show.ensures.shows),
     ))
@@ -61,6 +61,6 @@ returns-clause-stops g c =
     either_way c.answer_in_turn-served.result c.end_of.result c.answer_in_turn-served.ensures.serves c.answer_in_turn-served.ensures.stops
     (λ end served. goes_some _ c.args.self.threads g.R.Read.remaining c.args.self.input c.in-Some.input _ _ _ _ c.in-Some.is
     (inr (served_all c.args.self.threads _ _ _ _ _ _ end served.0 served.2 served.1
-    (for_these c.args.self.threads false (requests served.0) served.2 c.if-threads.false served.3) served.4)))
+    (for_these c.args.self.threads None (requests served.0) served.2 c.in_default-threads.is served.3) served.4)))
     (λ some. goes_some _ c.args.self.threads g.R.Read.remaining c.args.self.input c.in-Some.input _ _ _ _ c.in-Some.is
-    (some_for _ c.args.self.threads false _ _ _ _ _ c.if-threads.false some))
+    (some_for _ c.args.self.threads None _ _ _ _ _ c.in_default-threads.is some))

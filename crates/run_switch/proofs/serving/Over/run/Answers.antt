@@ -1,4 +1,4 @@
-use Rattle.std.proofs.Common.{◌≡◌, ◌∙◌, ap, ℕ, Bool, List, Option, Some, None, Result, Ok, Err, IfNone, IfOk, IfSome, OnErr, inl, refl, subst, sym}
+use Rattle.std.proofs.Common.{◌≡◌, ◌∙◌, ap, ℕ, List, Option, Some, None, Result, Ok, Err, IfNone, IfOk, IfSome, OnErr, inl, refl, subst, sym}
 use Rattle.std.specs.Prelude.{option_map}
 use Rattle.flow_model.specs.declared.flow.Flow.{Flow}
 use Rattle.sw_issuers.specs.Sending.{PlainSender}
@@ -7,21 +7,22 @@ use Rattle.tx_engine.specs.World.{World}
 use Rattle.journal_store.specs.Kept.{kept}
 use Rattle.tx_plant.specs.Plant.{Seen, Whole, seen, whole}
 use Rattle.tx_seats.specs.Drives.{IsMade}
+use Rattle.run_responses.specs.declared.sink.ResponseOrder.{ResponseOrder}
 use Rattle.run_switch.specs.Advices.{AdviceStep, PlainAdvisor}
 use Rattle.run_switch.specs.Numbers.{begun_in}
 use Rattle.run_switch.specs.Points.{Point}
 use Rattle.run_switch.specs.Ran.{HasBegun, Ran, ServesTold, all_lines}
-use Rattle.run_switch.specs.Requests.{ReadTo, requests}
+use Rattle.run_input.specs.Requests.{ReadTo, passed_over, requests}
 use Rattle.run_switch.specs.Rounds.{Round, RoundsFor}
 use Rattle.run_reports.specs.declared.Words.{Words}
 use Rattle.run_reports.specs.declared.ready.Recovered.{Recovered}
 use Rattle.run_switch.specs.Shown.{TellsRun, unfinished_in}
 use Rattle.run_switch.specs.Stopped.{GoesOnSome, IsStopped}
-use Rattle.run_switch.specs.Traces.{Log, passed_over}
+use Rattle.run_switch.specs.Traces.{Log}
 use Rattle.run_switch.specs.declared.error.ServeError.{ServeError}
-use Rattle.run_switch.specs.declared.stream.StreamEnd.{StreamEnd}
+use Rattle.run_input.specs.declared.frames.StreamEnd.{StreamEnd}
 use Rattle.std.proofs.KnownBytes.{Keeps-refl}
-use Rattle.run_switch.proofs.Batched.{for_these}
+use Rattle.run_switch.proofs.LegRounds.{for_these}
 use Rattle.run_switch.proofs.Halted.{stopped}
 use Rattle.run_switch.proofs.Rounds.{on_ok}
 use Rattle.run_switch.proofs.Runs.{has_begun, printed, ran_from}
@@ -29,13 +30,13 @@ use Rattle.run_switch.proofs.Stops.{on_err_of}
 use Rattle.run_switch.proofs.serving.Over.run.Goals as goal
 
 -- what was served of this input
-abbrev Served : {R : Type 0} → (R → Option (List ℕ)) → Bool → AdviceStep → Point → PlainAdvisor → Option (List ℕ) → Option (List ℕ) → Option Words →
+abbrev Served : {R : Type 0} → (R → Option (List ℕ)) → Option ResponseOrder → AdviceStep → Point → PlainAdvisor → Option (List ℕ) → Option (List ℕ) → Option Words →
     Recovered → Log → Log → StreamEnd → R → Type 0
 Served remaining threads step p advisor a b words unfinished k l end reader =
     (frames : List (List ℕ)) × ReadTo end (remaining reader) frames × (rounds : List Round) × RoundsFor threads (requests frames) rounds
     × ServesTold step rounds p advisor a b words unfinished (passed_over frames) k l
 
-ran_over : {R : Type 0} (r : Result StreamEnd ServeError) (other input : Option R) (remaining : R → Option (List ℕ)) (one threads : Bool) (f : Flow)
+ran_over : {R : Type 0} (r : Result StreamEnd ServeError) (other input : Option R) (remaining : R → Option (List ℕ)) (one threads : Option ResponseOrder) (f : Flow)
     (n : ℕ) (j : Seen) (sender : PlainSender) (most : ℕ) (p : Point) (advisor : PlainAdvisor) (unfinished : Recovered) (step : AdviceStep)
     (a b : Option (List ℕ)) (words : Option Words) (k l : Log) → other ≡ input → one ≡ threads → HasBegun f n j sender most p advisor unfinished
     → IfOk r (λ end. IfSome other (Served remaining one step p advisor a b words unfinished k l end))
@@ -57,7 +58,7 @@ if_none_too other (Some x) same f h = tt
 if_none_too {R} {P} other None same f h = f (subst (λ (z : Option R). IfNone z P) same h)
 
 -- and where it ends with an error
-stopped_over : {R : Type 0} (r : Result StreamEnd ServeError) (other input : Option R) (remaining : R → Option (List ℕ)) (one threads : Bool) (f : Flow)
+stopped_over : {R : Type 0} (r : Result StreamEnd ServeError) (other input : Option R) (remaining : R → Option (List ℕ)) (one threads : Option ResponseOrder) (f : Flow)
     (n : ℕ) (j : Seen) (sender : PlainSender) (most : ℕ) (p : Point) (advisor : PlainAdvisor) (unfinished : Recovered) (step : AdviceStep)
     (a b : Option (List ℕ)) → other ≡ input → one ≡ threads → HasBegun f n j sender most p advisor unfinished
     → OnErr r (GoesOnSome step one (option_map remaining other) p advisor a b)
@@ -67,7 +68,7 @@ stopped_over {R} (Err e) other input remaining one threads f n j sender most p a
     let here : GoesOnSome step one (option_map remaining input) p advisor a b =
     subst (λ (z : Option R). GoesOnSome step one (option_map remaining z) p advisor a b) same some in
     stopped f n j sender most p advisor unfinished step threads (option_map remaining input) a b h
-    (subst (λ (t : Bool). GoesOnSome step t (option_map remaining input) p advisor a b) by here)
+    (subst (λ (t : Option ResponseOrder). GoesOnSome step t (option_map remaining input) p advisor a b) by here)
 
 pub go_on-requires-clause-rest : goal.go_on-requires-clause-rest
 go_on-requires-clause-rest g c =

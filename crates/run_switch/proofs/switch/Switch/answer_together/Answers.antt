@@ -1,15 +1,15 @@
-use Rattle.std.proofs.Common.{true, inl, inr}
+use Rattle.std.proofs.Common.{Some, inl, inr}
 use Rattle.run_switch.proofs.Runs.{all_served, told_last}
 use Rattle.run_switch.proofs.Stops.{drains_all, on_err_of}
 use Rattle.run_switch.proofs.switch.Switch.answer_together.Goals as goal
 
-pub answer_in_batches-requires-clause-ready : goal.answer_in_batches-requires-clause-ready
-answer_in_batches-requires-clause-ready g c = λ κs within. c.in_ok-cut_traced.ensures.ready
+pub answer_stream-requires-clause-ready : goal.answer_stream-requires-clause-ready
+answer_stream-requires-clause-ready g c = λ κs within. c.in_ok-cut_traced.ensures.ready
 
 pub returns-clause-serves : goal.returns-clause-serves
 returns-clause-serves g c =
     let (frames, read, serves) = c.in_ok-served.ensures.serves in
-    let (all, end, tells) = all_served _ true frames _ _ _ _ _ _ _ _ _ _ _ _ _ _ c.in_ok-cut_traced.ensures.cuts c.in_ok-cut_traced.ensures.ready serves
+    let (all, end, tells) = all_served _ (Some c.args.order) frames _ _ _ _ _ _ _ _ _ _ _ _ _ _ c.in_ok-cut_traced.ensures.cuts c.in_ok-cut_traced.ensures.ready serves
     c.in_ok-closed.ensures.closes in
     let (whole, last) = told_last _ _ _ _ _ _ _ _ _ _ _ _ _ all end c.engine.ensures tells c.in_ok-traced.ensures.tells c.show.ensures.shows in
     (frames, read, serves.rounds, serves.answers, whole, last)

@@ -1,0 +1,108 @@
+//! Requests answered in legs, as they come.
+
+ghost use Rattle.std.specs.Prelude.{◌≡◌, ℕ, List, IfOk, OnErr, Some};
+ghost use Rattle.sw_issuers.specs.Sending.{SendsAdvice};
+ghost use Rattle.run_input.specs.Requests.{ReadTo};
+ghost use Rattle.run_switch.specs.Legs.{AdvancesFor, stage};
+ghost use Rattle.run_switch.specs.Points.{IsReady, point_of};
+ghost use Rattle.run_switch.specs.Stopped.{StopsWithin};
+ghost use Rattle.run_switch.specs.Traces.{log_of};
+
+use crate::advices::{Advisor, send_between};
+use crate::edge::Edge;
+use crate::error::ServeError;
+use crate::leg::{LegPlan, answer_leg};
+use crate::switch::{MANY_ENTRIES, Switch};
+use run_input::{Arrivals, Heard, Input, LegLimits, StreamEnd};
+use run_responses::ResponseOrder;
+use run_watch::Watch;
+use sqlite::Alter;
+use std::io::{Read, Write};
+use std::sync::{Arc, Wait};
+use std::thread::Threads;
+use std::time::{Clock, Duration};
+use sw_parts::Link;
+
+/// How long a leg goes on at most where lines or advices are due, in milliseconds.
+const LONGEST: u64 = 1_000;
+
+// When the next leg ends though requests come: with its history, where the next line of numbers is due, and after some time
+// where lines are wanted or advices may be sent.
+fn limits_of<S: Alter, T: Clock, L: Link, E: Write>(
+    edge: &Edge<'_, T, E>,
+    switch: &Switch<S>,
+    advisor: &Advisor<L>,
+) -> LegLimits {
+    let is_timed = edge.stderr.is_live() || advisor.most() > 0;
+    LegLimits {
+        entries: MANY_ENTRIES as u64,
+        requests: edge.stderr.requests_left(switch.answered.counts.requests()),
+        time: if is_timed {
+            Some(Duration::from_millis(LONGEST))
+        } else {
+            None
+        },
+    }
+}
+
+/// Answers all requests of an input, in legs. Stored advices are sent between two legs.
+pub(crate) fn answer_stream<
+    S: Alter + Drop,
+    T: Threads + Wait + Clock + Clone + Drop + Send + Sync + 'static,
+    B: Input + Send + Sync + 'static,
+    L: Link,
+    R: Read + Drop + Send + 'static,
+    O: Write,
+    E: Write,
+>(
+    edge: &mut Edge<'_, T, E>,
+    switch: Switch<S>,
+    advisor: &mut Advisor<L>,
+    input: R,
+    order: ResponseOrder,
+    out: &mut O,
+) -> Result<(Switch<S>, StreamEnd), ServeError>
+    requires ready { IsReady (point_of S.Store switch) }
+    requires input { R.remaining input ≡ B.input }
+    ensures serves { IfOk result (λ served. (frames : List (List ℕ))
+        × ReadTo served.1 B.input frames
+        × AdvancesFor (SendsAdvice L.sends L.receives L.starves (Unit {0})) (Some order) frames
+        (stage advisor.old (point_of S.Store switch) (O.contents out.old))
+        (log_of E.contents edge.old.stderr)
+        (stage advisor.new (point_of S.Store served.0) (O.contents out.new))
+        (log_of E.contents edge.new.stderr)) }
+    ensures ready { IfOk result (λ served. IsReady (point_of S.Store served.0)) }
+    ensures stops { OnErr result (StopsWithin
+        (SendsAdvice L.sends L.receives L.starves (Unit {0})) (Some order) B.input
+        (stage advisor.old (point_of S.Store switch) (O.contents out.old))
+        (O.contents out.new)) }
+{
+    let watch = Arc::new(edge.alloc, Watch::new())?;
+    let mut arrivals = Arrivals::<B, T>::open(edge.rt, edge.alloc, input, &watch)?;
+    let mut switch = switch;
+    for _ in edge.rt.forever() {
+        arrivals.wait();
+        let limits = limits_of(edge, &switch, advisor);
+        let plan = LegPlan {
+            order,
+            limits,
+            watch: &watch,
+        };
+        let led = answer_leg(edge, switch, arrivals, plan, out)?;
+        let (after, heard) = led;
+        switch = after;
+        let Heard {
+            arrivals: got,
+            passed: _,
+            end,
+        } = heard;
+        arrivals = got;
+        arrivals.has_come();
+        match end {
+            Some(Ok(end)) => return Ok((switch, end)),
+            Some(Err(error)) => return Err(ServeError::from(error)),
+            None => send_between(edge, &mut switch, advisor)?,
+        }
+    }
+    unreachable!()
+}
