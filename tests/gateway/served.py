@@ -1,0 +1,160 @@
+"""A gateway that serves in a folder of its own."""
+
+import contextlib
+import json
+import os
+import signal
+import subprocess
+import sys
+import time
+
+HERE = os.path.dirname(os.path.abspath(__file__))
+TOP = os.path.dirname(os.path.dirname(HERE))
+GATEWAY, WITHOUT = os.path.join(TOP, "contrib", "gateway"), os.path.join(HERE, "without.py")
+FLOW = os.path.join(TOP, "examples", "switch.toml")
+# How long anything here may take, in seconds.
+SECONDS = 15
+CONFIG = """
+[[host]]
+name = "alpha"
+to = "alpha.to"
+from = "alpha.from"
+timeout_ms = 3000
+in_flight = 16
+
+[[host]]
+name = "beta"
+simulated = true
+
+[[route]]
+prefix = "4"
+group = "alpha"
+
+[limits]
+per_card = 999999999999
+stand_in = 0
+
+[run]
+advices = 8
+"""
+
+
+class Wrong(Exception):
+    """What is wrong in a case."""
+
+
+def wanted(what, got, want):
+    if got != want:
+        raise Wrong(f"{what}: {got!r}, wanted {want!r}")
+
+
+def awaited(what, found, seconds=SECONDS):
+    """Waits until something is found, and returns it."""
+    until = time.monotonic() + seconds
+    while not (got := found()):
+        if time.monotonic() > until:
+            raise Wrong(f"{what}: not within {seconds} seconds")
+        time.sleep(0.01)
+    return got
+
+
+def python():
+    """Debian's Python if it is there, since aiohttp, uvloop and pika are its packages; otherwise the one that runs
+    the test."""
+    debian = "/usr/bin/python3"
+    asked = [debian, "-c", "import sys; sys.exit(sys.version_info < (3, 11))"]
+    is_there = os.access(debian, os.X_OK) and subprocess.run(asked, check=False).returncode == 0
+    return debian if is_there else sys.executable
+
+
+class Served:
+    """A gateway. Its log is read from a file, which stays when it is started again."""
+
+    def __init__(self, program, room, *words, issuer=None, without=None, command=()):
+        self.room, self.log, self.port = room, os.path.join(room, "gateway.log"), 0
+        config = os.path.join(room, "config.toml")
+        with open(config, "w", encoding="utf-8") as file:
+            file.write(CONFIG)
+        self.command = [python(), *(command or ([WITHOUT, without] if without else [GATEWAY]))]
+        self.words = [
+            "--program",
+            program,
+            "--flow",
+            FLOW,
+            "--config",
+            config,
+            "--folder",
+            os.path.join(room, "engines"),
+        ]
+        self.words += ["--web", "off"] if "--web" not in words else []
+        self.words += ["--issuer", f"alpha=127.0.0.1:{issuer.port}"] if issuer else []
+        self.words += words
+        self.process = None
+        self.start()
+
+    def start(self):
+        begin = os.path.getsize(self.log) if os.path.exists(self.log) else 0
+        words = ["--listen", f"127.0.0.1:{self.port}", *self.words]
+        if "--" in words:
+            # (the words after it are the engines')
+            words = [*words[: words.index("--")], *words[words.index("--") :]]
+        with open(self.log, "ab") as log:
+            self.process = subprocess.Popen(
+                [*self.command, *words], stderr=log, stdin=subprocess.DEVNULL, cwd=self.room
+            )
+        self.port = awaited("the gateway is ready", lambda: self.ready_since(begin))
+
+    def ready_since(self, begin):
+        if self.process.poll() is not None:
+            with open(self.log, encoding="utf-8") as file:
+                raise Wrong(f"the gateway ended with {self.process.returncode}: {file.read()[-600:]}")
+        return next((it["port"] for it in self.events("ready", begin)), None)
+
+    def events(self, name=None, begin=0):
+        """The events of the log, or those of a name."""
+        with open(self.log, encoding="utf-8", errors="replace") as file:
+            file.seek(begin)
+            lines = [json.loads(line) for line in file.read().split("\n")[:-1] if line.startswith("{")]
+        return [it for it in lines if name is None or it["event"] == name]
+
+    def engines(self):
+        """The process ids of the engines that live, by the gateway's children."""
+        with contextlib.suppress(FileNotFoundError):
+            with open(f"/proc/{self.process.pid}/task/{self.process.pid}/children", encoding="ascii") as file:
+                return [int(it) for it in file.read().split()]
+        return []
+
+    def memory(self):
+        """What the gateway has in memory, in KiB."""
+        with open(f"/proc/{self.process.pid}/status", encoding="ascii") as file:
+            return int(next(line for line in file if line.startswith("VmRSS")).split()[1])
+
+    def kill(self):
+        self.process.kill()
+        self.process.wait()
+
+    def stop(self, seconds=SECONDS):
+        """Ends it by SIGTERM; its status."""
+        self.process.send_signal(signal.SIGTERM)
+        try:
+            return self.process.wait(seconds)
+        except subprocess.TimeoutExpired:
+            raise Wrong(f"the gateway had not ended {seconds} seconds after SIGTERM") from None
+
+    def end(self):
+        """Ends it, however that goes."""
+        if self.process.poll() is None:
+            self.process.terminate()
+            try:
+                self.process.wait(3)
+            except subprocess.TimeoutExpired:
+                self.kill()
+
+
+@contextlib.contextmanager
+def serving(program, room, *words, **more):
+    served = Served(program, room, *words, **more)
+    try:
+        yield served
+    finally:
+        served.end()
