@@ -8,6 +8,8 @@ import subprocess
 import sys
 import time
 
+from cardgate.process import ends_with
+
 HERE = os.path.dirname(os.path.abspath(__file__))
 TOP = os.path.dirname(os.path.dirname(HERE))
 GATEWAY, WITHOUT = os.path.join(TOP, "contrib", "gateway"), os.path.join(HERE, "without.py")

@@ -19,13 +19,13 @@ from cardgate import clients, command, engine, gateway, iso8583, line, options, 
 def whole_frames():
     """G1: what a client sends in a frame with a bad length goes on to the engines."""
 
-    def end(client, why, **_):
+    ended, started = clients.Client.end, gateway.Gateway.start
+
+    def end(client, why, **members):
         if why == "bad_frame":
             for its in client.front.engines:
                 its.input.write(client.framer.kept[client.framer.at :])
-            client.framer.kept = b""
-
-    started = gateway.Gateway.start
+        ended(client, why, **members)
 
     async def start(its):
         its.front.engines = its.engines
@@ -65,7 +65,7 @@ def taken_back():
 
 def ends_with_the_gateway():
     """G5: an engine goes on when its gateway has ended."""
-    process.ends_with = lambda _: None
+    process.ends_with = lambda _: lambda: None
 
 
 def tests_when_idle():
@@ -84,12 +84,7 @@ def finishes():
 
 def bounded():
     """G8: a client may have any number of requests open, and leave any number of responses unread."""
-    clients.Bounds = lambda **_: clients_bounds
-
-    class clients_bounds:
-        requests, unread, clients = 10**9, 1 << 40, 10**9
-
-    options.Bounds = lambda **_: clients_bounds
+    options.Bounds = lambda *_: clients.Bounds(10**9, 1 << 30, 10**9)
 
 
 RULES = {

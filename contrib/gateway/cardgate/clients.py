@@ -15,6 +15,10 @@ from cardgate.request import Headers, Kind, Request, request_of
 from cardgate.stats import Stats, Transaction
 
 
+# What the system keeps of the responses of a connection that are not read, in bytes.
+SEND_BUFFER = 65_536
+
+
 @dataclasses.dataclass(frozen=True)
 class Bounds:
     """How much memory clients may take."""
@@ -42,8 +46,9 @@ class Client(asyncio.Protocol):
         self.transport.set_write_buffer_limits(high=self.front.bounds.unread)
         peer = transport.get_extra_info("socket")
         if peer is not None:
-            # (a client whose machine is gone is found out some time)
+            # (a client whose machine is gone is found out some time; and the system keeps little of what is not read)
             peer.setsockopt(socket.SOL_SOCKET, socket.SO_KEEPALIVE, 1)
+            peer.setsockopt(socket.SOL_SOCKET, socket.SO_SNDBUF, SEND_BUFFER)
         self.front.connected(self)
 
     def connection_lost(self, _: Exception | None) -> None:

@@ -2,6 +2,8 @@
 
 import argparse
 import os
+import typing
+from collections.abc import Callable
 
 from cardgate.clients import Bounds
 from cardgate.line import Limits
@@ -17,6 +19,9 @@ from cardgate.settings import (
     program_of,
 )
 
+Value = typing.TypeVar("Value")
+SHOWN, ISSUER = "[default: %(default)s]", "NAME=HOST:PORT"
+DESCRIPTION = "Serves card payments over TCP: many clients, several engines, a card always at the same one."
 EPILOG = """
 Without options it serves clients at 127.0.0.1:8583, with the flow examples/switch.toml and two engines, whose
 journals are in the folder gateway-engines. SIGTERM ends it: it answers what it has taken, and ends its engines.
@@ -24,7 +29,7 @@ Words after -- go to each engine. docs/operate/SCALING.md tells the rest.
 """
 
 
-def number_of(least: int, most: int):  # type: ignore[no-untyped-def]
+def number_of(least: int, most: int) -> Callable[[str], int]:
     """Reads a whole number between these."""
 
     def read(text: str) -> int:
@@ -48,95 +53,73 @@ def seconds_of(text: str) -> float:
 def engine_options(parser: argparse.ArgumentParser) -> None:
     """The options of engines and of times."""
     add = parser.add_argument
+    flow = os.path.join(REPOSITORY, "examples", "switch.toml")
+    pipes = 'a host NAME of it has to = "NAME.to" and from = "NAME.from"'
     add("--program", metavar="PATH", help="cardswitch [default: out/cardswitch, or the one on the path]")
-    add(
-        "--flow",
-        metavar="PATH",
-        default=os.path.join(REPOSITORY, "examples", "switch.toml"),
-        help="the flow [default: the example's]",
-    )
-    add(
-        "--config",
-        metavar="PATH",
-        help='the engines\' configuration; a host NAME has to = "NAME.to" and from = "NAME.from"',
-    )
-    add(
-        "--folder",
-        metavar="DIR",
-        default="gateway-engines",
-        help="a folder for each engine is made here [default: %(default)s]",
-    )
+    add("--flow", metavar="PATH", default=flow, help="the flow [default: examples/switch.toml]")
+    add("--config", metavar="PATH", help=f"the engines' configuration; {pipes}")
+    add("--folder", metavar="DIR", default="gateway-engines", help=f"has a folder for each engine {SHOWN}")
     add(
         "--issuer",
-        metavar="NAME=HOST:PORT",
+        metavar=ISSUER,
         action="append",
         default=[],
-        help="connects the engines' pipes of this host to HOST:PORT",
+        help="connects the engines' pipes of a host to an address",
     )
     add(
         "--window",
         metavar="N",
         type=number_of(1, 16),
         default=16,
-        help="sessions of an engine, and requests at it [default: 16]",
+        help=f"sessions of an engine, and requests at it {SHOWN}",
     )
     add(
         "--wait",
         metavar="S",
         type=seconds_of,
-        default=2.0,
-        help="an authorization waits so long for an engine [default: 2]",
+        default=2,
+        help=f"how long an authorization waits for its engine {SHOWN}",
     )
-    add(
-        "--late",
-        metavar="S",
-        type=seconds_of,
-        default=4.0,
-        help="a later approval is reversed, not delivered [default: 4]",
-    )
+    add("--late", metavar="S", type=seconds_of, default=4, help=f"a later approval is reversed, not delivered {SHOWN}")
     add(
         "--patience",
         metavar="S",
         type=seconds_of,
-        default=60.0,
-        help="at the end an engine is killed after this [default: 60]",
+        default=60,
+        help=f"at the end, an engine is killed after this {SHOWN}",
     )
     add("words", metavar="-- WORD", nargs="*", help="further options of each engine's run")
 
 
 def parser_of() -> argparse.ArgumentParser:
-    parser = argparse.ArgumentParser(
-        prog="gateway",
-        epilog=EPILOG,
-        description="Serves card payments over TCP: many clients, several engines, a card always at one.",
-    )
-    add = parser.add_argument
-    add("--listen", metavar="HOST:PORT", default="127.0.0.1:8583", help="where clients connect [default: %(default)s]")
+    parser = argparse.ArgumentParser(prog="gateway", epilog=EPILOG, description=DESCRIPTION)
+    add, bounds = parser.add_argument, Bounds()
+    add("--listen", metavar="HOST:PORT", default="127.0.0.1:8583", help=f"where clients connect {SHOWN}")
     add(
         "--engines",
         metavar="N",
         type=number_of(1, 256),
         default=2,
-        help="how many engines; keep it once chosen [default: 2]",
+        help=f"how many engines; keep it once chosen {SHOWN}",
     )
     add(
         "--clients",
         metavar="N",
-        type=number_of(1, 100_000),
-        default=10_000,
-        help="connections at most [default: 10000]",
+        type=number_of(1, 10**6),
+        default=bounds.clients,
+        help=f"connections at most {SHOWN}",
     )
     add(
-        "--web",
-        metavar="HOST:PORT",
-        default="127.0.0.1:9583",
-        help="where the page and /metrics are, or off [default: %(default)s]",
+        "--open",
+        metavar="N",
+        type=number_of(1, 10**5),
+        default=bounds.requests,
+        help=f"open requests of a client {SHOWN}",
     )
-    add(
-        "--paths",
-        action="store_true",
-        help="the page shows paths through the flow; engines write a trace and are slower",
-    )
+    unread = "a client that leaves more bytes of responses unread is closed"
+    add("--unread", metavar="N", type=number_of(1, 1 << 30), default=bounds.unread, help=f"{unread} {SHOWN}")
+    add("--web", metavar="HOST:PORT", default="127.0.0.1:9583", help=f"where the page and /metrics are, or off {SHOWN}")
+    add("--paths", action="store_true", help="the page shows paths through the flow; engines write a trace for it")
     engine_options(parser)
     return parser
 
@@ -157,16 +140,26 @@ def engines_of(given: argparse.Namespace) -> EngineSettings:
     )
 
 
+def named(option: str, read: Callable[[str], Value], text: str) -> Value:
+    """What is read from the text of an option; a refusal names the option."""
+    try:
+        return read(text)
+    except Refused as fault:
+        raise Refused(f"{option}: {fault}") from None
+
+
 def settings_of(given: argparse.Namespace) -> Settings:
     if given.late <= given.wait:
         raise Refused(f"--late: found {given.late}; expected more than --wait, which is {given.wait}")
-    engines, issuers = engines_of(given), [issuer_of(it) for it in given.issuer]
+    engines, issuers = engines_of(given), [named("--issuer", issuer_of, it) for it in given.issuer]
     hosts = hosts_of(engines.config)
     for issuer in issuers:
         if issuer.name not in hosts:
             known = " ".join(hosts) or "none"
             expected = f"a host of the configuration with pipes, of which there are: {known}"
             raise Refused(f"--issuer: found {issuer.name}; expected {expected}")
-    limits, bounds = Limits(given.window, given.wait, given.late), Bounds(clients=given.clients)
-    web = loopback_of(given.web)
-    return Settings(place_of(given.listen), web, engines, given.engines, issuers, limits, bounds, given.patience)
+    limits, bounds = Limits(given.window, given.wait, given.late), Bounds(given.open, given.unread, given.clients)
+    web = named("--web", loopback_of, given.web)
+    return Settings(
+        named("--listen", place_of, given.listen), web, engines, given.engines, issuers, limits, bounds, given.patience
+    )
