@@ -32,8 +32,8 @@ from gateway import fronts, rules, units  # noqa: E402
 from gateway.served import Wrong  # noqa: E402
 
 FAKE = os.path.join(HERE, "gateway", "fake_engine.py")
-# How long a case may take, in seconds, and how many are run at once: most of their time they wait.
-CASE, WORKERS = 60, 4
+# How long a case may take, in seconds, and how many are run at once at most: most of their time they wait.
+CASE, WORKERS = 90, 4
 
 
 @dataclasses.dataclass
@@ -114,7 +114,7 @@ def main():
         return 1
     began, passed, failed = time.monotonic(), 0, 0
     chosen = [it for it in tries() if given.word in it.name]
-    with concurrent.futures.ProcessPoolExecutor(WORKERS, initializer=heed) as pool:
+    with concurrent.futures.ProcessPoolExecutor(min(WORKERS, len(os.sched_getaffinity(0))), initializer=heed) as pool:
         outcomes = pool.map(functools.partial(Try.outcome, program=program), chosen)
         for its, (fault, found) in zip(chosen, outcomes, strict=True):
             if given.times:

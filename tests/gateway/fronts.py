@@ -86,25 +86,29 @@ def without_a_response(bench):
 
 
 def many_connections(bench):
-    """900 connections at once, each with a request."""
-    with served(bench, "--wait", "15", "--late", "20") as (gateway, _):
+    """900 connections at once, each with a network test of its own, and then some with an authorization."""
+    with served(bench, "--wait", "30", "--late", "40") as (gateway, _):
         all_clients = [Client(gateway.port) for _ in range(MANY)]
         for number, client in enumerate(all_clients):
+            client.send(messages.encode(b"0800", {11: b"%06d" % number, 70: b"301"}))
+        answers = [client.receive(40) for client in all_clients]
+        stans = [it and it[1][11] for it in answers]
+        wanted("the answered tests", stans, [b"%06d" % number for number in range(MANY)])
+        some = all_clients[::30]
+        for number, client in enumerate(some):
             client.send(request(number, 1))
-        answers = [client.receive() for client in all_clients]
-        wanted("the number of answers", sum(it is not None for it in answers), MANY)
-        cards = [fields[2] for _, fields in answers]
-        wanted("whose they are", cards, [b"4%015d" % number for number in range(MANY)])
+        cards = [client.receive(40)[1][2] for client in some]
+        wanted("the answered cards", cards, [b"4%015d" % number for number in range(len(some))])
         for client in all_clients:
             client.close()
 
 
 def one_connection_to_the_issuer(bench):
     """Three engines ask the issuer over one connection, and each gets the answers to its own requests."""
-    with served(bench, "--engines", "3", delay=0.05) as (gateway, issuer):
+    with served(bench, "--engines", "3", "--wait", "9", "--late", "10", delay=0.05) as (gateway, issuer):
         client = Client(gateway.port)
-        client.send(*[request(number, 7) for number in range(60)])
-        answers = [client.receive() for _ in range(60)]
+        client.send(*[request(number, 7) for number in range(24)])
+        answers = [client.receive() for _ in range(24)]
         wanted("approved", {fields[39] for _, fields in answers}, {b"00"})
         wanted("connections to the issuer", issuer.connections, 1)
 

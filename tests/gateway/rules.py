@@ -61,15 +61,15 @@ def one_of_a_card(bench):
 
 def handed_over_once(bench):
     """G3: what an engine had when it was killed is not handed to the next one."""
-    with served(bench, *ONE, delay=1.0) as (gateway, issuer):
+    with served(bench, *ONE, "--wait", "8", "--late", "9", delay=2.0) as (gateway, issuer):
         client = Client(gateway.port)
-        client.send(*[request(card, 1) for card in range(4)])
-        awaited("the issuer has all", lambda: len(issuer.authorizations()) == 4)
+        client.send(*[request(card, 1) for card in range(2)])
+        awaited("the issuer has both", lambda: len(issuer.authorizations()) == 2)
         os.kill(gateway.engines()[0], signal.SIGKILL)
         awaited("the engine is back", lambda: len(gateway.events("engine_ready")) == 2)
         wanted("an answer", client.receive(1.5), None)
-        wanted("authorizations at the issuer", len(issuer.authorizations()), 4)
-        awaited("recovery reverses them", lambda: len({it.key for it in issuer.reversals()}) == 4)
+        wanted("authorizations at the issuer", len(issuer.authorizations()), 2)
+        awaited("recovery reverses them", lambda: len({it.key for it in issuer.reversals()}) == 2)
 
 
 def gone_and_late(bench):
@@ -181,21 +181,29 @@ def finishes_what_it_took(bench):
 
 def unread_responses(bench):
     """G8: a client that reads no responses is closed, and costs the others nothing."""
-    with served(bench, *ONE, "--unread", "20000") as (gateway, _):
+    told = {
+        7: b"1129050000",
+        11: b"000001",
+        32: b"1" * 11,
+        37: b"x" * 12,
+        41: b"TERM0001",
+        42: b"x" * 15,
+        70: b"301",
+        90: b"0" * 42,
+    }
+    test = messages.framed(messages.encode(b"0800", told))
+    with served(bench, *ONE, "--unread", "5000", "--open", "60") as (gateway, _):
         slow, other = Client(gateway.port), Client(gateway.port)
         slow.socket.setsockopt(socket.SOL_SOCKET, socket.SO_RCVBUF, 4096)
-        test = messages.framed(reversal(1, 1))
-        slow.socket.settimeout(0.5)
-        sent = 0
+        slow.socket.settimeout(4)
         with contextlib.suppress(TimeoutError, ConnectionError):
-            while sent < 6000:
+            for _ in range(50):
                 slow.socket.sendall(test * 20)
-                sent += 20
         wanted("another client", other.ask(request(1, 1))[1][39], b"00")
         awaited(
             "it is closed",
             lambda: [it for it in gateway.events("client_closed") if it["why"] == "responses_not_read"],
-            5,
+            10,
         )
 
 

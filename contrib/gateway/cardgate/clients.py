@@ -16,7 +16,7 @@ from cardgate.stats import Stats, Transaction
 
 
 # What the system keeps of the responses of a connection that are not read, in bytes.
-SEND_BUFFER = 65_536
+SEND_BUFFER = 16_384
 
 
 @dataclasses.dataclass(frozen=True)

@@ -10,6 +10,7 @@ from cardgate.gateway import Gateway
 from cardgate.log import Log
 from cardgate.options import parser_of, settings_of
 from cardgate.settings import Refused, Settings
+from cardgate.web import start_web
 
 
 def stop_signal() -> asyncio.Event:
@@ -29,9 +30,12 @@ def stop_signal() -> asyncio.Event:
 async def serve(settings: Settings, log: Log) -> None:
     stop = stop_signal()
     gateway = Gateway(settings, log)
+    runner = await start_web(gateway, settings.web, log)
     await gateway.start()
     await stop.wait()
     await gateway.stop()
+    if runner is not None:
+        await runner.cleanup()
 
 
 def allow_many_files() -> None:
