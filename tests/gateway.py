@@ -28,7 +28,7 @@ sys.path.insert(0, os.path.join(os.path.dirname(HERE), "contrib", "gateway"))
 
 import kills  # noqa: E402
 from cardgate.process import ends_with  # noqa: E402
-from gateway import fronts, rules, units  # noqa: E402
+from gateway import fronts, pages, rules, units  # noqa: E402
 from gateway.served import Wrong  # noqa: E402
 
 FAKE = os.path.join(HERE, "gateway", "fake_engine.py")
@@ -38,10 +38,11 @@ CASE, WORKERS = 90, 4
 
 @dataclasses.dataclass
 class Bench:
-    """What a case works with: the program, a folder, and the rule that is left out."""
+    """What a case works with: the program, a folder, one for pictures of pages, and the rule that is left out."""
 
     program: str
     room: str
+    shots: str
     without: str | None = None
 
 
@@ -49,12 +50,12 @@ def overdue(*_):
     raise Wrong(f"the case had not ended after {CASE} seconds")
 
 
-def fault_of(case, program, without=None):
+def fault_of(case, given, without=None):
     """What is wrong in a case; None if nothing is."""
     room = tempfile.mkdtemp()
     signal.alarm(CASE)
     try:
-        case(Bench(program, room, without))
+        case(Bench(given.program, room, given.shots, without))
         return None
     except (Wrong, OSError, ValueError, subprocess.TimeoutExpired) as fault:
         return str(fault) or repr(fault)
@@ -71,16 +72,16 @@ class Try:
     name: str
     without: str | None = None
 
-    def outcome(self, program):
+    def outcome(self, given):
         """What is wrong, if anything is; and what the case found without the rule."""
-        fault = fault_of(self.case, program, self.without)
+        fault = fault_of(self.case, given, self.without)
         if self.without is None:
             return fault, None
         return (None if fault else "it passes without the rule"), fault
 
 
 def tries():
-    for case in units.CASES + fronts.CASES + rules.MORE:
+    for case in units.CASES + fronts.CASES + pages.CASES + rules.MORE:
         yield Try(case, case.__name__)
     for rule, case in rules.CASES:
         yield Try(case, f"{rule} {case.__name__}")
@@ -103,9 +104,11 @@ def main():
     parser.add_argument("word", nargs="?", default="")
     parser.add_argument("--program", default=kills.BUILT)
     parser.add_argument("--fake", action="store_true")
+    shots = os.path.join(os.path.dirname(HERE), "out", "shots")
+    parser.add_argument("--shots", default=shots, help="where pictures of the page are put")
     parser.add_argument("--times", action="store_true", help="each case, with the seconds so far")
     given = parser.parse_args()
-    program = FAKE if given.fake else os.path.abspath(given.program)
+    program = given.program = FAKE if given.fake else os.path.abspath(given.program)
     if not os.path.isfile(program):
         sys.exit(f"there is no program {program}: ./test builds it, or name one by --program")
     if not has_header(program):
@@ -115,7 +118,7 @@ def main():
     began, passed, failed = time.monotonic(), 0, 0
     chosen = [it for it in tries() if given.word in it.name]
     with concurrent.futures.ProcessPoolExecutor(min(WORKERS, len(os.sched_getaffinity(0))), initializer=heed) as pool:
-        outcomes = pool.map(functools.partial(Try.outcome, program=program), chosen)
+        outcomes = pool.map(functools.partial(Try.outcome, given=given), chosen)
         for its, (fault, found) in zip(chosen, outcomes, strict=True):
             if given.times:
                 print(f"  {time.monotonic() - began:.1f} {its.name}" + f": {found}"[:150] * bool(found), flush=True)

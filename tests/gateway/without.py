@@ -13,7 +13,7 @@ GATEWAY = os.path.join(
 )
 sys.path.insert(0, GATEWAY)
 
-from cardgate import clients, command, engine, gateway, iso8583, line, options, process  # noqa: E402
+from cardgate import clients, command, engine, gateway, given, iso8583, line, options, process  # noqa: E402
 
 
 def whole_frames():
@@ -84,7 +84,7 @@ def finishes():
 
 def bounded():
     """G8: a client may have any number of requests open, and leave any number of responses unread."""
-    options.Bounds = lambda *_: clients.Bounds(10**9, 1 << 30, 10**9)
+    given.Bounds = lambda *_: clients.Bounds(10**9, 1 << 30, 10**9)
 
 
 RULES = {

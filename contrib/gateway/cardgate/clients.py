@@ -185,6 +185,12 @@ class Front:
         if client is not None:
             client.closed_request()
 
+    def forget(self, seconds: float) -> None:
+        """Closes the requests that are older than so many seconds."""
+        before = self.loop.time() - seconds
+        for header in [header for header, (_, request) in self.asked.items() if request.taken < before]:
+            self.dropped(header)
+
     def stop(self) -> None:
         """No new connections and no new requests."""
         self.is_stopped = True

@@ -5,12 +5,18 @@ import os
 import resource
 import signal
 import sys
+import typing
 
 from cardgate.gateway import Gateway
+from cardgate.given import settings_of
 from cardgate.log import Log
-from cardgate.options import parser_of, settings_of
+from cardgate.options import Form, parser_of
 from cardgate.settings import Refused, Settings
+from cardgate.status import Shown
 from cardgate.web import start_web
+
+
+FORMS = {"front": Form.FRONT, "worker": Form.WORKER}
 
 
 def stop_signal() -> asyncio.Event:
@@ -27,13 +33,48 @@ def stop_signal() -> asyncio.Event:
     return stop
 
 
+class Service(typing.Protocol):
+    """What is started and ended: a gateway in one of its forms, or a worker."""
+
+    def shown(self) -> Shown:
+        ...
+
+    async def start(self) -> None:
+        ...
+
+    async def stop(self) -> None:
+        ...
+
+
+def service_of(settings: Settings, log: Log) -> Service:
+    if settings.broker is None:
+        assert settings.engines is not None and settings.listen is not None
+        return Gateway(settings, settings.listen, settings.engines, log)
+    try:
+        # (pika is asked for only where there is a broker)
+        from cardgate.brokered import BrokerGateway
+        from cardgate.worker import Worker
+    except ImportError:
+        raise Refused("found no pika; expected python3-pika, by which RabbitMQ is reached") from None
+    if settings.listen is not None:
+        return BrokerGateway(settings, settings.listen, settings.broker, log)
+    assert settings.engines is not None
+    return Worker(settings, settings.broker, settings.engines, log)
+
+
 async def serve(settings: Settings, log: Log) -> None:
     stop = stop_signal()
-    gateway = Gateway(settings, log)
-    runner = await start_web(gateway, settings.web, log)
-    await gateway.start()
-    await stop.wait()
-    await gateway.stop()
+    service = service_of(settings, log)
+    runner = await start_web(service.shown, settings.engines, settings.web, log)
+    starting = asyncio.ensure_future(service.start())
+    stopping = asyncio.ensure_future(stop.wait())
+    await asyncio.wait([starting, stopping], return_when=asyncio.FIRST_COMPLETED)
+    # (a start that failed ends the program; one that goes on is given up by a signal)
+    if starting.done():
+        starting.result()
+        await stopping
+    starting.cancel()
+    await service.stop()
     if runner is not None:
         await runner.cleanup()
 
@@ -56,7 +97,8 @@ def use_uvloop(log: Log) -> None:
 def main(words: list[str]) -> int:
     log = Log()
     try:
-        settings = settings_of(parser_of().parse_args(words))
+        form = FORMS.get(words[0] if words else "", Form.HERE)
+        settings = settings_of(form, parser_of(form).parse_args(words if form is Form.HERE else words[1:]))
         allow_many_files()
         use_uvloop(log)
         asyncio.run(serve(settings, log))

@@ -9,15 +9,17 @@ from cardgate.engine import Engine
 from cardgate.issuer import Issuer
 from cardgate.log import Log
 from cardgate.request import Request, shard_of
-from cardgate.settings import Settings, command_of, hosts_of
+from cardgate.settings import EngineSettings, Place, Settings, command_of, hosts_of
 from cardgate.stats import Stats
+from cardgate.status import Shown
 
 
 class Gateway:
-    def __init__(self, settings: Settings, log: Log) -> None:
+    def __init__(self, settings: Settings, listen: Place, engines: EngineSettings, log: Log) -> None:
+        self.listen, self.config = listen, engines.config
         self.settings, self.log, self.stats = settings, log, Stats()
         self.front = Front(self.submit, settings.bounds, self.stats, log)
-        command, folder = command_of(settings.engines), settings.engines.folder
+        command, folder = command_of(engines), engines.folder
         self.engines = [
             Engine(str(number), command, os.path.join(folder, f"engine{number}"), settings.limits, log)
             for number in range(settings.number)
@@ -36,6 +38,9 @@ class Gateway:
         engine.deliver = lambda request, response: self.front.deliver(request.header, response, engine.name)
         engine.dropped = lambda request, why: self.front.dropped(request.header)
 
+    def shown(self) -> Shown:
+        return Shown(self.stats, len(self.front.clients), len(self.front.asked), self.engines, self.issuers)
+
     def shard(self, card: str, message: bytes) -> int:
         return shard_of(card, message, len(self.engines))
 
@@ -44,7 +49,7 @@ class Gateway:
 
     def warn_of_slow_hosts(self) -> None:
         late = self.settings.limits.late
-        for name, timeout in hosts_of(self.settings.engines.config).items():
+        for name, timeout in hosts_of(self.config).items():
             if timeout >= 1000 * late:
                 self.log.warning(
                     "host_timeout_too_long", host=name, timeout_ms=timeout, expected=f"less than {late} seconds"
@@ -57,9 +62,8 @@ class Gateway:
         for issuer in self.issuers:
             self.start_task(issuer.run())
         self.lives = [asyncio.ensure_future(engine.run()) for engine in self.engines]
-        listen = self.settings.listen
-        self.port = await self.front.listen(listen.host, listen.port)
-        self.log.info("listening", host=listen.host, port=self.port, engines=len(self.engines))
+        self.port = await self.front.listen(self.listen.host, self.listen.port)
+        self.log.info("listening", host=self.listen.host, port=self.port, engines=len(self.engines))
         self.start_task(self.tell_ready())
 
     async def tell_ready(self) -> None:

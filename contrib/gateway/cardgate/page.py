@@ -13,6 +13,7 @@ h1 { font-size: 1.3rem } h2 { font-size: 1.05rem; margin: 1.6rem 0 .4rem }
 table { border-collapse: collapse; width: 100% } th, td { text-align: left; padding: .25rem .7rem .25rem 0 }
 th { font-weight: 600; border-bottom: 1px solid #b8c4cf } td { border-bottom: 1px solid #e6ebf0 }
 td.n, th.n { text-align: right; font-variant-numeric: tabular-nums }
+td.n + td, th.n + th { padding-left: .7rem }
 .numbers { display: flex; flex-wrap: wrap; gap: .8rem }
 .numbers div { background: #eef3f7; border-radius: .5rem; padding: .6rem 1rem }
 .numbers b { display: block; font-size: 1.5rem; font-variant-numeric: tabular-nums }
@@ -21,6 +22,7 @@ td.n, th.n { text-align: right; font-variant-numeric: tabular-nums }
 svg { max-width: 100%; height: auto } svg text { font: 13px system-ui, sans-serif; fill: #1b2733 }
 svg .group { font-weight: 600 }
 svg .mark, svg .code { font-size: 11px; text-anchor: end } svg .code { font-weight: 600; fill: #b3261e }
+svg .right { fill: #11703c }
 svg rect.passed { fill: #f4f6f8; stroke: #b8c4cf } svg rect.taken { fill: #dcefe3; stroke: #11703c }
 svg .way { fill: none; stroke: #11703c; stroke-width: 2; opacity: .35 }
 """
@@ -33,7 +35,7 @@ setInterval(async () => {
   } catch { document.querySelector("#lost").hidden = false; }
 }, 1000);
 """
-NOTE = "<p>The numbers are the steps in their order; ! marks those of an abort. Red is the result code so far.</p>"
+NOTE = "<p>The numbers are the steps in their order; ! marks those of an abort. Below them is the result code so far.</p>"
 # The number of a transaction's path, if it is known.
 Find = Callable[[Transaction], int | None]
 

@@ -151,7 +151,8 @@ def column(
         told = " ".join(marks.get((name, index), []))
         code = codes.get((name, index), "")
         parts.append(f'<text class="mark" x="{left + WIDTH - 6}" y="{top + 14}">{html.escape(told)}</text>')
-        parts.append(f'<text class="code" x="{left + WIDTH - 6}" y="{top + 29}">{html.escape(code)}</text>')
+        kind = "code right" if code == "00" else "code"
+        parts.append(f'<text class="{kind}" x="{left + WIDTH - 6}" y="{top + 29}">{html.escape(code)}</text>')
     return parts
 
 

@@ -1,6 +1,7 @@
 """What a gateway or worker is started with, and how its engines are."""
 
 import dataclasses
+import enum
 import ipaddress
 import os
 import re
@@ -18,6 +19,20 @@ REPOSITORY = os.path.dirname(os.path.dirname(os.path.dirname(os.path.dirname(os.
 
 class Refused(Exception):
     """What is wrong with the command line, and what is expected."""
+
+
+class Queues(enum.Enum):
+    """How the queues of shards are kept: in the memory of one node, or by a majority of nodes, on their disks."""
+
+    CLASSIC = "classic"
+    QUORUM = "quorum"
+
+
+@dataclasses.dataclass(frozen=True)
+class BrokerSettings:
+    url: str
+    shards: int
+    queues: Queues
 
 
 @dataclasses.dataclass(frozen=True)
@@ -43,14 +58,20 @@ class EngineSettings:
 
 @dataclasses.dataclass(frozen=True)
 class Settings:
-    listen: Place
+    """Of a gateway with engines of its own, of one over RabbitMQ (`engines` is None), or of a worker (`listen` is
+    None)."""
+
+    listen: Place | None
     web: Place | None
-    engines: EngineSettings
+    engines: EngineSettings | None
     number: int
     issuers: list[Address]
     limits: Limits
     bounds: Bounds
     patience: float
+    broker: BrokerSettings | None = None
+    # The shards of a worker.
+    shards: list[int] = dataclasses.field(default_factory=list)
 
 
 def place_of(text: str) -> Place:

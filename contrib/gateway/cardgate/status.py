@@ -1,14 +1,24 @@
-"""What a gateway is doing, as the page and /metrics tell it."""
+"""What a gateway or a worker is doing, as the page and /metrics tell it."""
 
 import dataclasses
 import time
 
 from cardgate.engine import Engine, State
-from cardgate.gateway import Gateway
 from cardgate.issuer import Issuer
 from cardgate.stats import Stats, Transaction
 
 SHARES = (0.5, 0.9, 0.99)
+
+
+@dataclasses.dataclass(frozen=True)
+class Shown:
+    """What a gateway or a worker shows of itself."""
+
+    stats: Stats
+    clients: int
+    open_requests: int
+    engines: list[Engine]
+    issuers: list[Issuer]
 
 
 @dataclasses.dataclass(frozen=True)
@@ -48,17 +58,17 @@ class Status:
     last: list[Transaction]
 
 
-def status_of(gateway: Gateway) -> Status:
-    stats = gateway.stats
+def status_of(shown: Shown) -> Status:
+    stats = shown.stats
     return Status(
         uptime=time.time() - stats.began,
-        clients=len(gateway.front.clients),
-        open_requests=len(gateway.front.asked),
+        clients=shown.clients,
+        open_requests=shown.open_requests,
         per_second=stats.times.per_second(),
         percentiles=stats.times.percentiles(SHARES),
         stats=stats,
-        engines=[engine_status(it) for it in gateway.engines],
-        issuers=[issuer_status(it) for it in gateway.issuers],
+        engines=[engine_status(it) for it in shown.engines],
+        issuers=[issuer_status(it) for it in shown.issuers],
         last=list(reversed(stats.last)),
     )
 

@@ -2,15 +2,16 @@
 
 from __future__ import annotations
 
+import functools
 import typing
+from collections.abc import Callable
 
 from cardgate import metrics, page
-from cardgate.gateway import Gateway
 from cardgate.log import Log
-from cardgate.paths import Paths, flow_of, picture
-from cardgate.settings import Place
+from cardgate.paths import Flow, Paths, flow_of, picture
+from cardgate.settings import EngineSettings, Place
 from cardgate.stats import Transaction
-from cardgate.status import status_of
+from cardgate.status import Shown, status_of
 
 if typing.TYPE_CHECKING:
     from aiohttp import web
@@ -24,18 +25,13 @@ OWN_NAMES = ("localhost", "127.0.0.1", "[::1]")
 class Pages:
     """What is answered at which path."""
 
-    def __init__(self, gateway: Gateway) -> None:
-        self.gateway, self.paths = gateway, Paths()
-        engines = gateway.settings.engines
-        self.has_paths = engines.has_paths
-        self.flow = flow_of(engines.program, engines.flow) if self.has_paths else None
-        if self.has_paths:
-            for engine in gateway.engines:
-                self.follow(engine.name)
-
-    def follow(self, name: str) -> None:
-        engine = next(it for it in self.gateway.engines if it.name == name)
-        engine.traced = lambda line: self.paths.line(name, line)
+    def __init__(self, shown: Callable[[], Shown], engines: EngineSettings | None) -> None:
+        self.shown, self.paths = shown, Paths()
+        self.flow: Flow | None = None
+        if engines is not None and engines.has_paths:
+            self.flow = flow_of(engines.program, engines.flow)
+            for engine in shown().engines:
+                engine.traced = functools.partial(self.paths.line, engine.name)
 
     def find(self, transaction: Transaction) -> int | None:
         return self.paths.find(transaction.engine, transaction.mti, transaction.stan, transaction.card)
@@ -43,10 +39,10 @@ class Pages:
     def text(self, path: str) -> tuple[str, str] | None:
         """The type and the text of what is at a path; None if nothing is."""
         if path == "/metrics":
-            return metrics.TYPE, metrics.exposition(status_of(self.gateway))
+            return metrics.TYPE, metrics.exposition(status_of(self.shown()))
         if path in ("/", "/part"):
             make = page.page if path == "/" else page.part
-            return "text/html; charset=utf-8", make(status_of(self.gateway), self.find)
+            return "text/html; charset=utf-8", make(status_of(self.shown()), self.find)
         return self.path(path)
 
     def path(self, path: str) -> tuple[str, str] | None:
@@ -60,7 +56,9 @@ class Pages:
         return "text/html; charset=utf-8", page.path_page(title, picture(self.flow, found), found.record)
 
 
-async def start_web(gateway: Gateway, place: Place | None, log: Log) -> web.AppRunner | None:
+async def start_web(
+    shown: Callable[[], Shown], engines: EngineSettings | None, place: Place | None, log: Log
+) -> web.AppRunner | None:
     """Serves the pages; None if they are off."""
     if place is None:
         return None
@@ -69,7 +67,7 @@ async def start_web(gateway: Gateway, place: Place | None, log: Log) -> web.AppR
     except ImportError:
         log.warning("no_page", expected="python3-aiohttp, for the page and /metrics")
         return None
-    pages = Pages(gateway)
+    pages = Pages(shown, engines)
 
     async def answer(request: web.Request) -> web.Response:
         # (a page of another site may not read this one by a name that leads to the loopback)
