@@ -69,48 +69,30 @@ def python():
     return debian if is_there else sys.executable
 
 
-class Served:
-    """A gateway. Its log is read from a file, which stays when it is started again."""
+class Running:
+    """A gateway or a worker. Its log is read from a file, which stays when it is started again."""
 
-    def __init__(self, program, room, *words, issuer=None, without=None, command=()):
-        self.room, self.log, self.port = room, os.path.join(room, "gateway.log"), 0
-        config = os.path.join(room, "config.toml")
-        with open(config, "w", encoding="utf-8") as file:
-            file.write(CONFIG)
-        self.command = [python(), *(command or ([WITHOUT, without] if without else [GATEWAY]))]
-        self.words = [
-            "--program",
-            program,
-            "--flow",
-            FLOW,
-            "--config",
-            config,
-            "--folder",
-            os.path.join(room, "engines"),
-        ]
-        self.words += ["--web", "off"] if "--web" not in words else []
-        self.words += ["--issuer", f"alpha=127.0.0.1:{issuer.port}"] if issuer else []
-        self.words += words
+    def __init__(self, room, name, command, words):
+        self.room, self.log = room, os.path.join(room, f"{name}.log")
+        self.command, self.words = [python(), *command], words
         self.process = None
-        self.start()
 
-    def start(self):
+    def launch(self, words):
+        """Starts it; where its own part of the log begins."""
         begin = os.path.getsize(self.log) if os.path.exists(self.log) else 0
-        words = ["--listen", f"127.0.0.1:{self.port}", *self.words]
-        if "--" in words:
-            # (the words after it are the engines')
-            words = [*words[: words.index("--")], *words[words.index("--") :]]
         with open(self.log, "ab") as log:
+            streams = {"stdin": subprocess.DEVNULL, "stderr": log}
+            # (it ends with the test, however that ends)
             self.process = subprocess.Popen(
-                [*self.command, *words], stderr=log, stdin=subprocess.DEVNULL, cwd=self.room
+                [*self.command, *words], cwd=self.room, preexec_fn=ends_with(os.getpid()), **streams
             )
-        self.port = awaited("the gateway is ready", lambda: self.ready_since(begin))
+        return begin
 
     def ready_since(self, begin):
         if self.process.poll() is not None:
             with open(self.log, encoding="utf-8") as file:
-                raise Wrong(f"the gateway ended with {self.process.returncode}: {file.read()[-600:]}")
-        return next((it["port"] for it in self.events("ready", begin)), None)
+                raise Wrong(f"it ended with {self.process.returncode}: {file.read()[-600:]}")
+        return self.events("ready", begin)
 
     def events(self, name=None, begin=0):
         """The events of the log, or those of a name."""
@@ -120,16 +102,11 @@ class Served:
         return [it for it in lines if name is None or it["event"] == name]
 
     def engines(self):
-        """The process ids of the engines that live, by the gateway's children."""
+        """The process ids of the engines that live: its children."""
         with contextlib.suppress(FileNotFoundError):
             with open(f"/proc/{self.process.pid}/task/{self.process.pid}/children", encoding="ascii") as file:
                 return [int(it) for it in file.read().split()]
         return []
-
-    def memory(self):
-        """What the gateway has in memory, in KiB."""
-        with open(f"/proc/{self.process.pid}/status", encoding="ascii") as file:
-            return int(next(line for line in file if line.startswith("VmRSS")).split()[1])
 
     def kill(self):
         self.process.kill()
@@ -141,16 +118,40 @@ class Served:
         try:
             return self.process.wait(seconds)
         except subprocess.TimeoutExpired:
-            raise Wrong(f"the gateway had not ended {seconds} seconds after SIGTERM") from None
+            raise Wrong(f"it had not ended {seconds} seconds after SIGTERM") from None
 
     def end(self):
         """Ends it, however that goes."""
-        if self.process.poll() is None:
+        if self.process is not None and self.process.poll() is None:
             self.process.terminate()
             try:
                 self.process.wait(3)
             except subprocess.TimeoutExpired:
                 self.kill()
+
+
+def configured(room):
+    """The configuration's file in a folder."""
+    config = os.path.join(room, "config.toml")
+    with open(config, "w", encoding="utf-8") as file:
+        file.write(CONFIG)
+    return config
+
+
+class Served(Running):
+    """A gateway with engines of its own."""
+
+    def __init__(self, program, room, *words, issuer=None, without=None):
+        own = ["--program", program, "--flow", FLOW, "--config", configured(room), "--folder", f"{room}/engines"]
+        own += ["--web", "off"] if "--web" not in words else []
+        own += ["--issuer", f"alpha=127.0.0.1:{issuer.port}"] if issuer else []
+        super().__init__(room, "gateway", [WITHOUT, without] if without else [GATEWAY], [*own, *words])
+        self.port = 0
+        self.start()
+
+    def start(self):
+        begin = self.launch(["--listen", f"127.0.0.1:{self.port}", *self.words])
+        self.port = awaited("the gateway is ready", lambda: self.ready_since(begin))[0]["port"]
 
 
 @contextlib.contextmanager

@@ -44,8 +44,8 @@ class Link:
     """A connection with one channel. `ready` declares and consumes on a new channel, and then calls what it is
     given."""
 
-    def __init__(self, url: str, ready: Callable[[Any, Callable[[], None]], None], log: Log) -> None:
-        self.parameters, self.ready, self.log = pika.URLParameters(url), ready, log
+    def __init__(self, urls: list[str], ready: Callable[[Any, Callable[[], None]], None], log: Log) -> None:
+        self.parameters, self.ready, self.log = [pika.URLParameters(url) for url in urls], ready, log
         self.channel: Any = None
         self.connection: Any = None
         self.is_closing, self.connects = False, 0
@@ -53,8 +53,10 @@ class Link:
 
     def connect(self) -> None:
         if not self.is_closing:
+            # (each time the next node)
+            node = self.parameters[self.connects % len(self.parameters)]
             self.connects += 1
-            AsyncioConnection(self.parameters, self.opened, self.lost, self.lost)
+            AsyncioConnection(node, self.opened, self.lost, self.lost)
 
     def opened(self, connection: Any) -> None:
         self.connection = connection

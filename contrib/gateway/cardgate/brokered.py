@@ -30,7 +30,7 @@ class BrokerGateway:
         self.front = Front(self.submit, settings.bounds, self.stats, log)
         self.reversals = Reversals(self.front.headers, self.submit, self.loop.time)
         self.lanes = [Lane(functools.partial(self.publish, number)) for number in range(broker.shards)]
-        self.link = Link(broker.url, self.declare, log)
+        self.link = Link(broker.urls, self.declare, log)
         self.properties = pika.BasicProperties(delivery_mode=1, expiration=str(int(1000 * self.limits.wait)))
         self.refused = self.late = 0
         self.ticking: asyncio.Future[None] | None = None

@@ -35,7 +35,9 @@ setInterval(async () => {
   } catch { document.querySelector("#lost").hidden = false; }
 }, 1000);
 """
-NOTE = "<p>The numbers are the steps in their order; ! marks those of an abort. Below them is the result code so far.</p>"
+NOTE = (
+    "<p>The numbers are the steps in their order; ! marks those of an abort. Below them is the result code so far.</p>"
+)
 # The number of a transaction's path, if it is known.
 Find = Callable[[Transaction], int | None]
 

@@ -30,7 +30,8 @@ class Queues(enum.Enum):
 
 @dataclasses.dataclass(frozen=True)
 class BrokerSettings:
-    url: str
+    # Of the nodes, which are tried in turn.
+    urls: list[str]
     shards: int
     queues: Queues
 

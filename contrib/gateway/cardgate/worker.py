@@ -43,7 +43,7 @@ class Worker:
                 issuer.attach(shard, engine.name, engine.folder)
         # By gateway and shard: what is on its way to the gateway.
         self.lanes: dict[tuple[bytes, int], Lane] = {}
-        self.link = Link(broker.url, self.declare, log)
+        self.link = Link(broker.urls, self.declare, log)
         self.properties = pika.BasicProperties(delivery_mode=1)
         self.tags: list[str] = []
         self.passed = self.returned = 0
