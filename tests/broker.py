@@ -46,8 +46,10 @@ class Front(Running):
         super().__init__(bench.room, name, command, [*bench.over(nodes), *TIMES, "--web", "off"])
         self.port = 0
 
-    def start(self):
-        begin = self.launch(["--listen", f"127.0.0.1:{self.port}", *self.words])
+    def launch(self):
+        return self.begin(["--listen", f"127.0.0.1:{self.port}", *self.words])
+
+    def await_ready(self, begin):
         self.port = awaited("the front is ready", lambda: self.ready_since(begin), 30)[0]["port"]
 
 
@@ -61,8 +63,10 @@ class Machine(Running):
         words += ["--config", configured(bench.room), "--folder", folder, "--issuer", f"alpha=127.0.0.1:{issuer.port}"]
         super().__init__(bench.room, name, command, words)
 
-    def start(self):
-        begin = self.launch(self.words)
+    def launch(self):
+        return self.begin(self.words)
+
+    def await_ready(self, begin):
         awaited(f"{os.path.basename(self.log)} has a ready worker", lambda: self.ready_since(begin), 30)
 
     def signal_all(self, number):
@@ -208,14 +212,14 @@ async def under_faults(bench, work, fronts, machines):
             machines[turn % 2].signal_all(signal.SIGKILL)
             machines[turn % 2].process.wait()
             await asyncio.sleep(2)
-            await asyncio.to_thread(machines[turn % 2].start)
+            await machines[turn % 2].start_again()
         elif what == "freeze":
             machines[place].signal_all(signal.SIGSTOP)
             await asyncio.sleep(5)
             machines[place].signal_all(signal.SIGCONT)
         elif what == "front":
             fronts[place].kill()
-            await asyncio.to_thread(fronts[place].start)
+            await fronts[place].start_again()
         else:
             node = chosen.randrange(bench.cluster.number)
             bench.cluster.kill(node)
@@ -249,8 +253,10 @@ def fault_of(case, bench):
     try:
         case(bench)
         return None
-    except (Wrong, OSError, ValueError, subprocess.TimeoutExpired) as fault:
-        return str(fault) or repr(fault)
+    except Wrong as fault:
+        return str(fault)
+    except Exception as fault:  # pylint: disable=broad-except
+        return repr(fault)
     finally:
         signal.alarm(0)
 

@@ -28,7 +28,7 @@ sys.path.insert(0, os.path.join(os.path.dirname(HERE), "contrib", "gateway"))
 
 import kills  # noqa: E402
 from cardgate.process import ends_with  # noqa: E402
-from gateway import fronts, pages, rules, units  # noqa: E402
+from gateway import examples, fronts, pages, rules, units  # noqa: E402
 from gateway.served import Wrong  # noqa: E402
 
 FAKE = os.path.join(HERE, "gateway", "fake_engine.py")
@@ -57,8 +57,10 @@ def fault_of(case, given, without=None):
     try:
         case(Bench(given.program, room, given.shots, without))
         return None
-    except (Wrong, OSError, ValueError, subprocess.TimeoutExpired) as fault:
-        return str(fault) or repr(fault)
+    except Wrong as fault:
+        return str(fault)
+    except Exception as fault:  # pylint: disable=broad-except
+        return repr(fault)
     finally:
         signal.alarm(0)
         shutil.rmtree(room, ignore_errors=True)
@@ -81,7 +83,7 @@ class Try:
 
 
 def tries():
-    for case in units.CASES + fronts.CASES + pages.CASES + rules.MORE:
+    for case in units.CASES + fronts.CASES + pages.CASES + examples.CASES + rules.MORE:
         yield Try(case, case.__name__)
     for rule, case in rules.CASES:
         yield Try(case, f"{rule} {case.__name__}")

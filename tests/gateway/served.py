@@ -1,5 +1,6 @@
 """A gateway that serves in a folder of its own."""
 
+import asyncio
 import contextlib
 import json
 import os
@@ -77,8 +78,16 @@ class Running:
         self.command, self.words = [python(), *command], words
         self.process = None
 
-    def launch(self, words):
-        """Starts it; where its own part of the log begins."""
+    def start(self):
+        self.await_ready(self.launch())
+
+    async def start_again(self):
+        """Starts it while other work goes on. (In this thread: a process ends with the thread that started it.)"""
+        begin = self.launch()
+        await asyncio.to_thread(self.await_ready, begin)
+
+    def begin(self, words):
+        """Starts the process; where its part of the log begins."""
         begin = os.path.getsize(self.log) if os.path.exists(self.log) else 0
         with open(self.log, "ab") as log:
             streams = {"stdin": subprocess.DEVNULL, "stderr": log}
@@ -149,8 +158,10 @@ class Served(Running):
         self.port = 0
         self.start()
 
-    def start(self):
-        begin = self.launch(["--listen", f"127.0.0.1:{self.port}", *self.words])
+    def launch(self):
+        return self.begin(["--listen", f"127.0.0.1:{self.port}", *self.words])
+
+    def await_ready(self, begin):
         self.port = awaited("the gateway is ready", lambda: self.ready_since(begin))[0]["port"]
 
 
