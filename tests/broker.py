@@ -139,12 +139,12 @@ def answered(bench):
 def returned_to_the_worker(bench):
     """G4: a gateway ends while the issuer has its requests; the broker returns the responses, and the worker reverses
     the approvals."""
-    with running(bench, delay=1.0) as ((front,), _, issuer):
+    with running(bench, delay=1.2) as ((front,), _, issuer):
         client, records = Client(front.port), []
-        for card in range(4):
+        for card in range(2):
             client.send(request(card, 1))
             records.append(load.Record(card, 1, time.monotonic(), load.State.GONE))
-        awaited("the issuer has all", lambda: len(issuer.authorizations()) == 4)
+        awaited("the issuer has both", lambda: len(issuer.authorizations()) == 2)
         front.kill()
         wanted("the faults", settled(records, issuer, 0, 5), [])
 

@@ -1,4 +1,5 @@
-"""Cases of the examples: the units of systemd, TLS before the gateway, and the commands of docs/operate/SCALING.md."""
+"""Cases of the examples: the units of systemd, TLS before the gateway, and the commands of
+docs/operate/SCALING.md."""
 
 import configparser
 import contextlib

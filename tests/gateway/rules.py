@@ -13,9 +13,9 @@ import time
 from model import messages
 
 from gateway import load
-from gateway.clients import Client, request, reversal
+from gateway.clients import NETWORK_TEST, Client, request, reversal
 from gateway.fronts import served
-from gateway.served import CONFIG, FLOW, Wrong, awaited, wanted
+from gateway.served import CONFIG, FLOW, Served, Wrong, awaited, wanted
 
 ONE = ("--engines", "1")
 
@@ -145,6 +145,23 @@ def journal_in_use(bench):
             other.kill()
 
 
+def silent_engine(bench):
+    """An engine that answers nothing is killed and started again; one that is refused what it is started with ends
+    the gateway."""
+    with served(bench, *ONE, "--silent", "2", "--late", "1.5", "--wait", "1") as (gateway, _):
+        os.kill(gateway.engines()[0], signal.SIGSTOP)
+        awaited("it is killed", lambda: gateway.events("engine_killed"), 10)
+        awaited("it is back", lambda: len(gateway.events("engine_ready")) == 2)
+        wanted("an answer", Client(gateway.port).ask(NETWORK_TEST)[0], b"0810")
+    try:
+        Served(bench.program, bench.room, "--", "--sessions", "many")
+    except Wrong as fault:
+        if bench.program.endswith("cardswitch"):
+            wanted("what it says", "gateway: an engine ended before it was ready" in str(fault), True)
+    else:
+        wanted("the fake engine alone takes all options", bench.program.endswith("cardswitch"), False)
+
+
 def tests_an_idle_engine(bench):
     """G6: what is stored for an issuer leaves while no client asks anything."""
     with served(bench, *ONE) as (gateway, issuer):
@@ -265,4 +282,4 @@ CASES = [
     ("G8", open_requests),
 ]
 # Cases of all rules together, or of a part of one that has no case without it.
-MORE = [journal_in_use, accounted_for]
+MORE = [journal_in_use, silent_engine, accounted_for]

@@ -74,7 +74,7 @@ class BrokerGateway:
     async def ticks(self) -> None:
         while True:
             await asyncio.sleep(TICK)
-            self.front.forget(self.limits.unanswered)
+            self.front.forget(self.limits.silent)
             self.reversals.repeat_after(REPEATED_AFTER)
 
     async def start(self) -> None:

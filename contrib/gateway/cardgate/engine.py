@@ -3,7 +3,6 @@ ends."""
 
 import asyncio
 import contextlib
-import enum
 import os
 from collections.abc import Callable
 
@@ -13,26 +12,20 @@ from cardgate.log import Log
 from cardgate.process import PIECE, each_line, started
 from cardgate.request import HEADER, Headers, Kind, Request, request_of
 from cardgate.reversals import Reversals
-from cardgate.stats import EngineCounts
+from cardgate.stats import EngineCounts, State
 
 TICK = 1.0
 # The pauses before an engine is started again: the first, and the longest. (Its journal may still be in use: status
 # 3.)
 PAUSE, LONGEST_PAUSE = 0.2, 5.0
+# The statuses of an engine that is refused what it was started with: it would be refused again.
+REFUSED = (1, 2)
 NETWORK_TEST = b"0800" + b"8020000000000000" + b"0400000000000000" + b"000000" + b"301"
 
 # What an engine tells about a request: its response, and whether that could be delivered; or that none will come, and
 # why.
 Deliver = Callable[[Request, bytes], bool]
 Dropped = Callable[[Request, str], None]
-
-
-class State(enum.Enum):
-    STARTING = "starting"
-    READY = "ready"
-    AWAY = "away"
-    CLOSING = "closing"
-    ENDED = "ended"
 
 
 class Engine:
@@ -46,8 +39,9 @@ class Engine:
         # Gets the lines of the trace, where the engine writes one.
         self.traced: Callable[[str], None] | None = None
         self.process: asyncio.subprocess.Process | None = None
-        self.state, self.status, self.is_due, self.responses = State.STARTING, 0, False, 0
-        self.ready = asyncio.Event()
+        self.state, self.status, self.responses = State.STARTING, 0, 0
+        self.is_due = self.is_closing = False
+        self.ready, self.refused = asyncio.Event(), asyncio.Event()
 
     @property
     def input(self) -> asyncio.StreamWriter | None:
@@ -125,19 +119,22 @@ class Engine:
         """Keeps a process running until close() ends it. Its status."""
         os.makedirs(self.folder, exist_ok=True)
         pause = PAUSE
-        while True:
-            self.state = State.CLOSING if self.state is State.CLOSING else State.STARTING
+        while not self.is_closing:
+            self.state = State.STARTING
             began, responses = self.loop.time(), self.responses
             self.status = await self.live()
-            if self.state is State.CLOSING:
-                self.state = State.ENDED
-                return self.status
+            if self.is_closing:
+                break
             self.state = State.AWAY
+            if self.status in REFUSED and self.counts.starts == 1 and not self.responses:
+                self.refused.set()
             # (one that answered something is worth an early start)
             pause = PAUSE if self.responses > responses else min(2 * pause, LONGEST_PAUSE)
             seconds = round(self.loop.time() - began, 3)
             self.log.warning("engine_ended", engine=self.name, status=self.status, seconds=seconds, again_after=pause)
             await asyncio.sleep(pause)
+        self.state = State.ENDED
+        return self.status
 
     async def live(self) -> int:
         """One process, from its start to its end. Its status."""
@@ -147,7 +144,10 @@ class Engine:
             self.log.error("engine_cannot_start", engine=self.name, fault=str(fault))
             return 127
         self.counts.starts += 1
-        assert process.stdout is not None and process.stderr is not None
+        assert process.stdin is not None and process.stdout is not None and process.stderr is not None
+        if self.is_closing:
+            # (it was started while the end was asked for)
+            process.stdin.close()
         self.log.info("engine_started", engine=self.name, pid=process.pid)
         beside = [asyncio.ensure_future(it) for it in (self.ticks(), each_line(process.stderr, self.said))]
         try:
@@ -200,16 +200,24 @@ class Engine:
             await asyncio.sleep(TICK)
             now = self.loop.time()
             for request in self.line.unanswered(now):
-                self.log.warning("no_response", engine=self.name, mti=request.mti, stan=request.stan)
-                if request.is_own:
-                    self.reversals.repeat(request.header)
-                else:
-                    self.drop(request, "no response")
+                self.unanswered(request)
             for request in self.line.over(now):
                 self.drop(request, "waited too long")
             if self.responses == before and not self.line.handed:
                 self.test()
             self.flush()
+
+    def unanswered(self, request: Request) -> None:
+        """The engine has had a request for too long. One that does not answer a network test does nothing any
+        more."""
+        self.log.warning("no_response", engine=self.name, mti=request.mti, stan=request.stan)
+        if request.is_own and request.kind is Kind.REVERSAL:
+            self.reversals.repeat(request.header)
+        elif not request.is_own:
+            self.drop(request, "no response")
+        elif self.state is State.READY:
+            self.log.error("engine_killed", engine=self.name, why="it does not answer a network test")
+            self.kill()
 
     async def drain(self, seconds: float) -> None:
         """Waits until all that was taken is answered, with the reversals that come of it (rule G7)."""
@@ -221,7 +229,7 @@ class Engine:
         """Ends the input of the process, which then sends its advices and ends. It is killed only after so many
         seconds."""
         await self.drain(seconds)
-        self.state = State.CLOSING
+        self.state, self.is_closing = State.CLOSING, True
         out = self.input
         if out is not None:
             out.close()
@@ -230,7 +238,7 @@ class Engine:
             with contextlib.suppress(asyncio.TimeoutError):
                 await asyncio.wait_for(process.wait(), seconds)
         if self.process is not None:
-            self.log.error("engine_killed", engine=self.name, waited=seconds)
+            self.log.error("engine_killed", engine=self.name, why=f"it had not ended after {seconds:g} seconds")
             self.kill()
 
     def kill(self) -> None:

@@ -2,14 +2,14 @@
 
 import asyncio
 import os
-from collections.abc import Awaitable
 
 from cardgate.clients import Front
 from cardgate.engine import Engine
 from cardgate.issuer import Issuer
 from cardgate.log import Log
+from cardgate.readiness import ENGINES_END, all_ready
 from cardgate.request import Request, shard_of
-from cardgate.settings import EngineSettings, Place, Settings, command_of, hosts_of
+from cardgate.settings import EngineSettings, Place, Refused, Settings, command_of, hosts_of
 from cardgate.stats import Stats
 from cardgate.status import Shown
 
@@ -31,7 +31,8 @@ class Gateway:
             for shard, engine in enumerate(self.engines):
                 issuer.attach(shard, engine.name, engine.folder)
         self.warn_of_slow_hosts()
-        self.running: list[asyncio.Future[object]] = []
+        self.running: list[asyncio.Future[None]] = []
+        self.lives: list[asyncio.Future[int]] = []
         self.port = 0
 
     def connect(self, engine: Engine) -> None:
@@ -55,19 +56,13 @@ class Gateway:
                     "host_timeout_too_long", host=name, timeout_ms=timeout, expected=f"less than {late} seconds"
                 )
 
-    def start_task(self, work: Awaitable[object]) -> None:
-        self.running.append(asyncio.ensure_future(work))
-
     async def start(self) -> None:
-        for issuer in self.issuers:
-            self.start_task(issuer.run())
-        self.lives = [asyncio.ensure_future(engine.run()) for engine in self.engines]
         self.port = await self.front.listen(self.listen.host, self.listen.port)
         self.log.info("listening", host=self.listen.host, port=self.port, engines=len(self.engines))
-        self.start_task(self.tell_ready())
-
-    async def tell_ready(self) -> None:
-        await asyncio.gather(*(engine.ready.wait() for engine in self.engines))
+        self.running = [asyncio.ensure_future(issuer.run()) for issuer in self.issuers]
+        self.lives = [asyncio.ensure_future(engine.run()) for engine in self.engines]
+        if not await all_ready(self.engines):
+            raise Refused(ENGINES_END)
         self.log.info("ready", port=self.port)
 
     async def stop(self) -> None:

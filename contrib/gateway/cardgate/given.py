@@ -84,6 +84,8 @@ def shards_of(text: str, number: int) -> list[int]:
 def settings_of(form: Form, given: argparse.Namespace) -> Settings:
     if given.late <= given.wait:
         raise Refused(f"--late: found {given.late}; expected more than --wait, which is {given.wait}")
+    if given.silent <= given.late:
+        raise Refused(f"--silent: found {given.silent}; expected more than --late, which is {given.late}")
     engines = None if form is Form.FRONT else engines_of(given)
     broker = None if form is Form.HERE else broker_of(given)
     is_front = form is not Form.WORKER
@@ -93,7 +95,7 @@ def settings_of(form: Form, given: argparse.Namespace) -> Settings:
         engines=engines,
         number=given.engines if form is Form.HERE else 0,
         issuers=[] if engines is None else issuers_of(given, engines.config),
-        limits=Limits(16 if engines is None else given.window, given.wait, given.late),
+        limits=Limits(16 if engines is None else given.window, given.wait, given.late, given.silent),
         bounds=Bounds(given.open, given.unread, given.clients) if is_front else Bounds(),
         patience=given.patience,
         broker=broker,

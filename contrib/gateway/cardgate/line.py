@@ -17,7 +17,7 @@ class Limits:
     # After how long an approval is reversed instead of delivered. Clients have to wait longer than that.
     late: float = 4.0
     # After how long a request that the engine has is taken for one without a response.
-    unanswered: float = 30.0
+    silent: float = 30.0
     # How many requests may wait.
     waiting: int = 20_000
 
@@ -91,7 +91,7 @@ class Line:
 
     def unanswered(self, now: float) -> list[Request]:
         """What the engine has had for too long. It keeps its place no longer."""
-        gone = [it for it in self.handed.values() if now - it.taken > self.limits.unanswered]
+        gone = [it for it in self.handed.values() if now - it.taken > self.limits.silent]
         for request in gone:
             self.done(request.header)
         return gone

@@ -2,7 +2,7 @@
 
 from collections.abc import Iterator, Sequence
 
-from cardgate.engine import State
+from cardgate.stats import State
 from cardgate.status import SHARES, EngineStatus, IssuerStatus, Status
 
 PREFIX = "cardswitch_gateway_"

@@ -14,7 +14,7 @@ SHOWN = "[default: %(default)s]"
 AMQP = "CARDSWITCH_AMQP"
 EPILOG = """
 Without options it serves clients at 127.0.0.1:8583, with the flow examples/switch.toml and two engines, whose
-journals are in the folder gateway-engines. SIGTERM ends it: it answers what it has taken, and ends its engines.
+journals are in the folder out/gateway. SIGTERM ends it: it answers what it has taken, and ends its engines.
 Words after -- go to each engine. The forms "gateway front" and "gateway worker" are for several machines, over
 RabbitMQ, and each has its own --help. docs/operate/SCALING.md tells the rest.
 """
@@ -59,17 +59,13 @@ def seconds_of(text: str) -> float:
 
 
 def time_options(add: Add) -> None:
-    add(
-        "--wait", metavar="S", type=seconds_of, default=2, help=f"an authorization waits so long for its engine {SHOWN}"
-    )
-    add("--late", metavar="S", type=seconds_of, default=4, help=f"a later approval is reversed, not delivered {SHOWN}")
-    add(
-        "--patience",
-        metavar="S",
-        type=seconds_of,
-        default=60,
-        help=f"at the end, what is unfinished has so long {SHOWN}",
-    )
+    def seconds(option: str, default: int, told: str) -> None:
+        add(option, metavar="S", type=seconds_of, default=default, help=f"{told} {SHOWN}")
+
+    seconds("--wait", 2, "how long an authorization may wait for its engine")
+    seconds("--late", 4, "an approval that comes later is reversed, and not delivered")
+    seconds("--silent", 30, "a request that its engine has had for so long gets no response")
+    seconds("--patience", 60, "at the end, how long what is unfinished may take")
 
 
 def client_options(add: Add) -> None:
@@ -89,13 +85,14 @@ def client_options(add: Add) -> None:
 
 def engine_options(add: Add) -> None:
     flow = os.path.join(REPOSITORY, "examples", "switch.toml")
+    folder = os.path.join(REPOSITORY, "out", "gateway")
     config = 'the configuration; a host NAME of it has to = "NAME.to" and from = "NAME.from"'
     issuer = "connects the engines' pipes of the host NAME to this address"
     window = number_of(1, 16)
     add("--program", metavar="PATH", help="cardswitch [default: out/cardswitch, or the one on the path]")
     add("--flow", metavar="PATH", default=flow, help="the flow [default: examples/switch.toml]")
     add("--config", metavar="PATH", help=config)
-    add("--folder", metavar="DIR", default="gateway-engines", help=f"has a folder for each engine {SHOWN}")
+    add("--folder", metavar="DIR", default=folder, help="has a folder for each engine [default: out/gateway]")
     add("--issuer", metavar="NAME=HOST:PORT", action="append", default=[], help=issuer)
     add("--window", metavar="N", type=window, default=16, help=f"sessions of an engine, and requests at it {SHOWN}")
     add("--paths", action="store_true", help="the page shows paths through the flow; engines write a trace for it")

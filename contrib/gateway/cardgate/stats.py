@@ -3,6 +3,7 @@
 import bisect
 import collections
 import dataclasses
+import enum
 import time
 
 # The upper ends of the classes of times, in seconds: each is a tenth longer than the one before, from 0.1 ms to more
@@ -10,6 +11,16 @@ import time
 CLASSES = tuple(0.0001 * 1.1**place for place in range(142))
 # How many seconds the percentiles and the requests a second are of.
 WINDOW = 60
+
+
+class State(enum.Enum):
+    """What an engine is doing."""
+
+    STARTING = "starting"
+    READY = "ready"
+    AWAY = "away"
+    CLOSING = "closing"
+    ENDED = "ended"
 
 
 @dataclasses.dataclass

@@ -3,9 +3,9 @@
 import dataclasses
 import time
 
-from cardgate.engine import Engine, State
+from cardgate.engine import Engine
 from cardgate.issuer import Issuer
-from cardgate.stats import Stats, Transaction
+from cardgate.stats import State, Stats, Transaction
 
 SHARES = (0.5, 0.9, 0.99)
 

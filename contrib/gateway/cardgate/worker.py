@@ -19,8 +19,9 @@ from cardgate.frames import BadFrame, all_messages
 from cardgate.issuer import Issuer
 from cardgate.iso8583 import Unreadable
 from cardgate.log import Log
+from cardgate.readiness import ENGINES_END, all_ready
 from cardgate.request import HEADER, Request, age_of, request_of, shard_of
-from cardgate.settings import BrokerSettings, EngineSettings, Settings, command_of
+from cardgate.settings import BrokerSettings, EngineSettings, Refused, Settings, command_of
 from cardgate.stats import Stats
 from cardgate.status import Shown
 
@@ -48,6 +49,7 @@ class Worker:
         self.tags: list[str] = []
         self.passed = self.returned = 0
         self.running: list[asyncio.Future[None]] = []
+        self.lives: list[asyncio.Future[int]] = []
 
     def shown(self) -> Shown:
         return Shown(self.stats, 0, 0, list(self.engines.values()), self.issuers)
@@ -111,7 +113,8 @@ class Worker:
         self.lives = [asyncio.ensure_future(engine.run()) for engine in self.engines.values()]
         self.link.connect()
         await self.link.came_up.wait()
-        await asyncio.gather(*(engine.ready.wait() for engine in self.engines.values()))
+        if not await all_ready(list(self.engines.values())):
+            raise Refused(ENGINES_END)
         self.log.info("ready", shards=list(self.engines))
 
     async def stop(self) -> None:
