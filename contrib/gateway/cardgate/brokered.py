@@ -29,6 +29,7 @@ class BrokerGateway:
         self.loop = asyncio.get_running_loop()
         self.front = Front(self.submit, settings.bounds, self.stats, log)
         self.reversals = Reversals(self.front.headers, self.submit, self.loop.time)
+        self.front.returned = lambda _, response: self.take_back(response)
         self.lanes = [Lane(functools.partial(self.publish, number)) for number in range(broker.shards)]
         self.link = Link(broker.urls, self.declare, log)
         self.properties = pika.BasicProperties(delivery_mode=1, expiration=str(int(1000 * self.limits.wait)))
@@ -69,7 +70,10 @@ class BrokerGateway:
             self.front.dropped(header)
             self.reversals.take_back(response)
         elif not self.front.deliver(header, response, "broker"):
-            self.reversals.take_back(response)
+            self.take_back(response)
+
+    def take_back(self, response: bytes) -> None:
+        self.reversals.take_back(response)
 
     async def ticks(self) -> None:
         while True:

@@ -38,7 +38,7 @@ class Client(asyncio.Protocol):
     def __init__(self, front: "Front") -> None:
         self.front, self.framer = front, Framer()
         self.open_requests, self.is_gone, self.is_paused, self.said_unreadable = 0, False, False, False
-        self.out: list[bytes] = []
+        self.out: list[tuple[Request, bytes]] = []
 
     def connection_made(self, transport: asyncio.BaseTransport) -> None:
         # (uvloop's are no instances of asyncio's class)
@@ -101,15 +101,19 @@ class Client(asyncio.Protocol):
             self.transport.resume_reading()
             self.take()
 
-    def give(self, message: bytes) -> None:
+    def give(self, request: Request, response: bytes) -> None:
         if not self.out:
             asyncio.get_running_loop().call_soon(self.flush)
-        self.out.append(frame(message))
+        self.out.append((request, response))
 
     def flush(self) -> None:
+        given, self.out = self.out, []
         if not self.is_gone:
-            self.transport.write(b"".join(self.out))
-        self.out.clear()
+            self.transport.write(b"".join(frame(response) for _, response in given))
+            return
+        for request, response in given:
+            self.front.stats.undelivered += 1
+            self.front.returned(request, response)
 
 
 class Front:
@@ -121,6 +125,8 @@ class Front:
         self.clients: set[Client] = set()
         # By header: whose request it is.
         self.asked: dict[bytes, tuple[Client, Request]] = {}
+        # Gets the response of a client that went before it could be written.
+        self.returned: Callable[[Request, bytes], None] = lambda request, response: None
         self.servers: list[asyncio.Server] = []
         self.is_stopped = False
 
@@ -133,7 +139,7 @@ class Front:
     def connected(self, client: Client) -> None:
         if len(self.clients) >= self.bounds.clients or self.is_stopped:
             self.stats.refused_clients += 1
-            client.end("too_many_clients")
+            client.end("stopping" if self.is_stopped else "too_many_clients")
         else:
             self.clients.add(client)
 
@@ -163,7 +169,7 @@ class Front:
         if client.is_gone:
             self.stats.undelivered += 1
             return False
-        client.give(response)
+        client.give(request, response)
         self.note(request, response, engine)
         return True
 

@@ -7,6 +7,7 @@ import os
 from collections.abc import Callable
 
 from cardgate.frames import BadFrame, Framer, frame
+from cardgate.iso8583 import is_approved
 from cardgate.line import Limits, Line
 from cardgate.log import Log
 from cardgate.process import PIECE, each_line, started
@@ -93,8 +94,12 @@ class Engine:
         else:
             self.counts.answered += 1
             if not self.deliver(request, response):
-                self.counts.undelivered += 1
-                self.reversals.take_back(response)
+                self.take_back(response)
+
+    def take_back(self, response: bytes) -> None:
+        """Reverses what could not be delivered."""
+        self.counts.undelivered += 1
+        self.reversals.take_back(response)
 
     def unasked(self, response: bytes) -> None:
         """The response to a request that this life did not hand over, such as one of the shelf, or that was given
@@ -105,6 +110,8 @@ class Engine:
 
     def own(self, request: Request, response: bytes) -> None:
         if request.kind is Kind.REVERSAL:
+            if not is_approved(response):
+                self.log.error("reversal_refused", engine=self.name, stan=request.stan)
             self.reversals.answered(request.header)
         elif self.state is State.STARTING:
             self.state = State.READY

@@ -26,6 +26,7 @@ class Gateway:
         ]
         for engine in self.engines:
             self.connect(engine)
+        self.front.returned = lambda request, response: self.engine_of(request).take_back(response)
         self.issuers = [Issuer(it, self.shard, log) for it in settings.issuers]
         for issuer in self.issuers:
             for shard, engine in enumerate(self.engines):
@@ -45,8 +46,11 @@ class Gateway:
     def shard(self, card: str, message: bytes) -> int:
         return shard_of(card, message, len(self.engines))
 
+    def engine_of(self, request: Request) -> Engine:
+        return self.engines[request.shard(len(self.engines))]
+
     def submit(self, request: Request) -> None:
-        self.engines[request.shard(len(self.engines))].submit(request)
+        self.engine_of(request).submit(request)
 
     def warn_of_slow_hosts(self) -> None:
         late = self.settings.limits.late

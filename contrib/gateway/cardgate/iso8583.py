@@ -115,6 +115,14 @@ def masked(card: str) -> str:
     return card[:6] + "*" * (len(card) - 10) + card[-4:]
 
 
+def is_approved(response: bytes) -> bool:
+    """Whether field 39 is 00."""
+    try:
+        return read(response)[1].get(39) == "00"
+    except Unreadable:
+        return False
+
+
 def reversal_of(response: bytes) -> bytes | None:
     """The 0420 that reverses what this response approves; None if it approves nothing."""
     if response[:4] != b"0110":

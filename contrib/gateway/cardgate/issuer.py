@@ -22,6 +22,8 @@ from cardgate.process import PIECE
 # How often a pipe is tried that its engine has not opened, and after how long the host is connected again, in
 # seconds.
 TRY, AGAIN = 0.02, 0.5
+# A connection that brings nothing for so long after a request is made anew: the host's machine may be gone.
+SILENT = 10.0
 # For how long an answer without a card is waited for, in seconds.
 REMEMBERED = 60.0
 
@@ -120,6 +122,8 @@ class Issuer:
         self.writer: asyncio.StreamWriter | None = None
         self.sent = self.received = self.lost = self.connections = 0
         self.since: float | None = None
+        # When the first request was sent after which nothing has come.
+        self.unanswered: float | None = None
 
     @property
     def is_connected(self) -> bool:
@@ -138,6 +142,7 @@ class Issuer:
             if 2 not in fields or mti[1] == "8":
                 self.asked.setdefault(key_of(mti, fields), collections.deque()).append((time.monotonic(), pipes))
         self.sent += 1
+        self.unanswered = self.unanswered or time.monotonic()
         self.writer.write(frame(message))
 
     def owner(self, message: bytes) -> Pipes | None:
@@ -163,6 +168,14 @@ class Issuer:
             return
         if pipes is None or not pipes.give(message):
             self.lost += 1
+
+    async def watch(self) -> None:
+        """Ends a connection that brings nothing more."""
+        while True:
+            await asyncio.sleep(SILENT / 10)
+            is_silent = self.unanswered is not None and time.monotonic() - self.unanswered > SILENT
+            if is_silent and self.writer is not None:
+                self.writer.transport.abort()
 
     def forget(self) -> None:
         """Forgets who asked long ago and got no answer."""
@@ -192,10 +205,12 @@ class Issuer:
         self.writer, self.since = writer, time.time()
         self.connections += 1
         self.log.info("issuer_connected", issuer=self.address.name, host=self.address.host, port=self.address.port)
-        carrying = [asyncio.ensure_future(it.run()) for it in self.pipes.values()]
+        self.unanswered = None
+        carrying = [asyncio.ensure_future(it) for it in (self.watch(), *(its.run() for its in self.pipes.values()))]
         framer = Framer()
         try:
             while data := await reader.read(PIECE):
+                self.unanswered = None
                 framer.push(data)
                 while (message := framer.pop()) is not None:
                     self.came(message)

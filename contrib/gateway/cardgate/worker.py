@@ -105,8 +105,7 @@ class Worker:
                 response = request_of(content[:HEADER], content[HEADER:], 0.0)
                 engine = self.engines.get(response.shard(self.broker.shards))
                 if engine is not None:
-                    engine.counts.undelivered += 1
-                    engine.reversals.take_back(response.message)
+                    engine.take_back(response.message)
 
     async def start(self) -> None:
         self.running = [asyncio.ensure_future(issuer.run()) for issuer in self.issuers]
