@@ -135,6 +135,10 @@ class Fake:
         """A message of the host."""
         mti, fields = messages.decode(message)
         key = fields.get(11), fields.get(41), fields.get(2)
+        if 2 not in fields:
+            key = next(
+                (it for it in self.pending if it[:2] == key[:2] and self.pending[it][3][4] == fields.get(4)), key
+            )
         if mti == b"0110" and key in self.pending:
             self.decide(key, fields[39], fields.get(38))
         elif mti == b"0430":

@@ -87,7 +87,7 @@ def without_a_response(bench):
 
 def many_connections(bench):
     """900 connections at once, each with a network test of its own, and then some with an authorization."""
-    with served(bench, "--wait", "30", "--late", "40") as (gateway, _):
+    with served(bench, "--wait", "20", "--late", "25") as (gateway, _):
         all_clients = [Client(gateway.port) for _ in range(MANY)]
         for number, client in enumerate(all_clients):
             client.send(messages.encode(b"0800", {11: b"%06d" % number, 70: b"301"}))
@@ -111,6 +111,16 @@ def one_connection_to_the_issuer(bench):
         answers = [client.receive() for _ in range(24)]
         wanted("approved", {fields[39] for _, fields in answers}, {b"00"})
         wanted("connections to the issuer", issuer.connections, 1)
+
+
+def answers_without_cards(bench):
+    """An issuer whose answers have no card: they go to the engines that asked."""
+    with served(bench, "--engines", "3", "--wait", "9", "--late", "10", delay=0.05) as (gateway, issuer):
+        issuer.tells_cards = False
+        client = Client(gateway.port)
+        client.send(*[request(number, number % 3, amount=100 + number) for number in range(24)])
+        answers = [client.receive() for _ in range(24)]
+        wanted("approved", [fields[39] for _, fields in answers], [b"00"] * 24)
 
 
 def issuer_away_and_back(bench):
@@ -162,6 +172,7 @@ CASES = [
     without_a_response,
     many_connections,
     one_connection_to_the_issuer,
+    answers_without_cards,
     issuer_away_and_back,
     no_card_in_the_log,
 ]

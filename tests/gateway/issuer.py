@@ -28,6 +28,8 @@ class Issuer:
 
     def __init__(self, delay: float = 0.0) -> None:
         self.delay, self.ledger, self.tests = delay, [], 0
+        # Whether its answers have the card.
+        self.tells_cards = True
         self.at_once = self.most_at_once = self.connections = 0
         self.writers: set[asyncio.StreamWriter] = set()
         self.loop, self.port, self.server = asyncio.new_event_loop(), 0, None
@@ -72,7 +74,8 @@ class Issuer:
 
     def take(self, message: bytes, writer) -> None:
         mti, fields = messages.decode(message)
-        told = {it: fields[it] for it in ECHOED if it in fields} | {39: b"00"}
+        echoed = ECHOED if self.tells_cards else ECHOED[1:]
+        told = {it: fields[it] for it in echoed if it in fields} | {39: b"00"}
         if mti in (b"0100", b"0101"):
             told[38] = fields[11]
             self.at_once += 1

@@ -1,6 +1,7 @@
 """The gateway over RabbitMQ: clients here, engines at the workers of any machine."""
 
 import asyncio
+import contextlib
 import functools
 from typing import Any
 
@@ -8,8 +9,9 @@ import pika  # type: ignore[import]
 
 from cardgate.broker import Lane, Link, body_of, declaration, responses, shard_queue
 from cardgate.clients import Front
-from cardgate.frames import all_messages
+from cardgate.frames import BadFrame, all_messages
 from cardgate.log import Log
+from cardgate.process import guarded
 from cardgate.request import HEADER, Request, age_of
 from cardgate.reversals import Reversals
 from cardgate.settings import BrokerSettings, Place, Settings
@@ -59,8 +61,9 @@ class BrokerGateway:
                 self.front.dropped(content[:HEADER])
 
     def came(self, _channel: Any, _method: Any, _properties: Any, body: bytes) -> None:
-        for content in all_messages(body):
-            self.answered(content[:HEADER], content[HEADER:])
+        with contextlib.suppress(BadFrame, ValueError):
+            for content in all_messages(body):
+                self.answered(content[:HEADER], content[HEADER:])
 
     def answered(self, header: bytes, response: bytes) -> None:
         if header in self.reversals.kept:
@@ -84,7 +87,7 @@ class BrokerGateway:
     async def start(self) -> None:
         self.link.connect()
         await self.link.came_up.wait()
-        self.ticking = asyncio.ensure_future(self.ticks())
+        self.ticking = guarded(self.ticks(), self.log)
         port = await self.front.listen(self.listen.host, self.listen.port)
         self.log.info("listening", host=self.listen.host, port=port, shards=self.broker.shards)
         self.log.info("ready", port=port)

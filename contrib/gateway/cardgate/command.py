@@ -11,6 +11,7 @@ from cardgate.gateway import Gateway
 from cardgate.given import settings_of
 from cardgate.log import Log
 from cardgate.options import Form, parser_of
+from cardgate.process import log_faults
 from cardgate.settings import Refused, Settings
 from cardgate.status import Shown
 from cardgate.web import start_web
@@ -64,6 +65,7 @@ def service_of(settings: Settings, log: Log) -> Service:
 
 async def serve(settings: Settings, log: Log) -> None:
     stop = stop_signal()
+    log_faults(log)
     service = service_of(settings, log)
     runner = await start_web(service.shown, settings.engines, settings.web, log)
     starting = asyncio.ensure_future(service.start())

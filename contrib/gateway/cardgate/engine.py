@@ -10,7 +10,7 @@ from cardgate.frames import BadFrame, Framer, frame
 from cardgate.iso8583 import is_approved
 from cardgate.line import Limits, Line
 from cardgate.log import Log
-from cardgate.process import PIECE, each_line, started
+from cardgate.process import PIECE, each_line, guarded, started
 from cardgate.request import HEADER, Headers, Kind, Request, request_of
 from cardgate.reversals import Reversals
 from cardgate.stats import EngineCounts, State
@@ -156,7 +156,7 @@ class Engine:
             # (it was started while the end was asked for)
             process.stdin.close()
         self.log.info("engine_started", engine=self.name, pid=process.pid)
-        beside = [asyncio.ensure_future(it) for it in (self.ticks(), each_line(process.stderr, self.said))]
+        beside = [guarded(it, self.log) for it in (self.ticks(), each_line(process.stderr, self.said))]
         try:
             await self.read(process.stdout)
             status = await process.wait()

@@ -33,7 +33,8 @@ class Framer:
 
     def refuse_letters(self, digits: bytes) -> None:
         if digits and not digits.isdigit():
-            raise BadFrame(f"a length of {digits!r}; expected four digits")
+            # (what was found may be a part of a card number, and this goes to the log)
+            raise BadFrame("a length of a frame that is not four digits")
 
 
 def frame(message: bytes) -> bytes:

@@ -7,6 +7,7 @@ from cardgate.clients import Front
 from cardgate.engine import Engine
 from cardgate.issuer import Issuer
 from cardgate.log import Log
+from cardgate.process import guarded
 from cardgate.readiness import ENGINES_END, all_ready
 from cardgate.request import Request, shard_of
 from cardgate.settings import EngineSettings, Place, Refused, Settings, command_of, hosts_of
@@ -63,8 +64,8 @@ class Gateway:
     async def start(self) -> None:
         self.port = await self.front.listen(self.listen.host, self.listen.port)
         self.log.info("listening", host=self.listen.host, port=self.port, engines=len(self.engines))
-        self.running = [asyncio.ensure_future(issuer.run()) for issuer in self.issuers]
-        self.lives = [asyncio.ensure_future(engine.run()) for engine in self.engines]
+        self.running = [guarded(issuer.run(), self.log) for issuer in self.issuers]
+        self.lives = [guarded(engine.run(), self.log) for engine in self.engines]
         if not await all_ready(self.engines):
             raise Refused(ENGINES_END)
         self.log.info("ready", port=self.port)

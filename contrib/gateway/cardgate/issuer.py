@@ -3,7 +3,7 @@
 Each engine has two named pipes to the host in its folder, which are opened while the host is connected and closed
 when it is not: so an engine finds a host that is away as one that is not there. Requests of all engines go out on the
 one connection. An answer with a card goes to the engine of its card. One without a card, such as that of an echo
-test, goes to the engine that first asked with its key.
+test, goes to the engine that first asked with its type, STAN and terminal, and with what else it has of the request.
 """
 
 import asyncio
@@ -24,8 +24,22 @@ from cardgate.process import PIECE
 TRY, AGAIN = 0.02, 0.5
 # A connection that brings nothing for so long after a request is made anew: the host's machine may be gone.
 SILENT = 10.0
-# For how long an answer without a card is waited for, in seconds.
+# For how long it is remembered who asked, in seconds.
 REMEMBERED = 60.0
+# The fields by which requests with the same key are told apart, where the answer has them.
+TOLD_APART = (4, 7, 37)
+
+
+@dataclasses.dataclass(frozen=True)
+class Asked:
+    """A request that an engine has sent, until it is answered."""
+
+    at: float
+    pipes: "Pipes"
+    fields: dict[int, str]
+
+    def fits(self, answer: dict[int, str]) -> bool:
+        return all(answer.get(it) in (None, self.fields.get(it)) for it in TOLD_APART)
 
 
 @dataclasses.dataclass(frozen=True)
@@ -53,6 +67,7 @@ class Pipes:
     async def run(self) -> None:
         """Carries what the engine sends, for as long as the host is connected. An engine that ends closes its pipes;
         the next opens them."""
+        said = None
         while True:
             opening: asyncio.Future[None] | None = None
             try:
@@ -62,13 +77,16 @@ class Pipes:
                     await self.carry(reader)
                 finally:
                     transport.close()
+                said = None
             except (BadFrame, OSError) as fault:
-                self.log.error("pipe_fault", engine=self.engine, pipe=self.to, fault=str(fault))
+                if str(fault) != said:
+                    self.log.error("pipe_fault", engine=self.engine, pipe=self.to, fault=str(fault))
+                said = str(fault)
             finally:
                 if opening is not None:
                     opening.cancel()
                 self.close_back()
-            await asyncio.sleep(TRY)
+            await asyncio.sleep(TRY if said is None else AGAIN)
 
     async def open_to(self) -> tuple[asyncio.StreamReader, asyncio.ReadTransport]:
         """The end that is read from. What was written for an earlier connection is dropped."""
@@ -118,7 +136,7 @@ class Issuer:
     def __init__(self, address: Address, shard: Callable[[str, bytes], int], log: Log) -> None:
         self.address, self.shard, self.log = address, shard, log
         self.pipes: dict[int, Pipes] = {}
-        self.asked: dict[tuple[str, ...], collections.deque[tuple[float, Pipes]]] = {}
+        self.asked: dict[tuple[str, ...], collections.deque[Asked]] = {}
         self.writer: asyncio.StreamWriter | None = None
         self.sent = self.received = self.lost = self.connections = 0
         self.since: float | None = None
@@ -139,8 +157,8 @@ class Issuer:
             return
         with contextlib.suppress(iso8583.Unreadable):
             mti, fields = iso8583.read(message)
-            if 2 not in fields or mti[1] == "8":
-                self.asked.setdefault(key_of(mti, fields), collections.deque()).append((time.monotonic(), pipes))
+            told = {it: fields[it] for it in TOLD_APART if it in fields}
+            self.asked.setdefault(key_of(mti, fields), collections.deque()).append(Asked(time.monotonic(), pipes, told))
         self.sent += 1
         self.unanswered = self.unanswered or time.monotonic()
         self.writer.write(frame(message))
@@ -148,15 +166,16 @@ class Issuer:
     def owner(self, message: bytes) -> Pipes | None:
         """The pipes of the engine that waits for this answer."""
         mti, fields = iso8583.read(message)
-        if 2 in fields and mti[1] != "8":
-            return self.pipes.get(self.shard(fields[2], message))
-        waiting = self.asked.get(key_of(mti, fields))
-        if not waiting:
-            return None
-        _, pipes = waiting.popleft()
-        if not waiting:
-            del self.asked[key_of(mti, fields)]
-        return pipes
+        owner = self.pipes.get(self.shard(fields[2], message)) if 2 in fields and mti[1] != "8" else None
+        key = key_of(mti, fields)
+        waiting = self.asked.get(key, ())
+        for asked in waiting:
+            if asked.pipes is owner or owner is None and asked.fits(fields):
+                self.asked[key].remove(asked)
+                if not self.asked[key]:
+                    del self.asked[key]
+                return asked.pipes
+        return owner
 
     def came(self, message: bytes) -> None:
         self.received += 1
@@ -181,7 +200,7 @@ class Issuer:
         """Forgets who asked long ago and got no answer."""
         before = time.monotonic() - REMEMBERED
         for key, waiting in list(self.asked.items()):
-            while waiting and waiting[0][0] < before:
+            while waiting and waiting[0].at < before:
                 waiting.popleft()
             if not waiting:
                 del self.asked[key]

@@ -19,6 +19,7 @@ from cardgate.frames import BadFrame, all_messages
 from cardgate.issuer import Issuer
 from cardgate.iso8583 import Unreadable
 from cardgate.log import Log
+from cardgate.process import guarded
 from cardgate.readiness import ENGINES_END, all_ready
 from cardgate.request import HEADER, Request, age_of, request_of, shard_of
 from cardgate.settings import BrokerSettings, EngineSettings, Refused, Settings, command_of
@@ -108,8 +109,8 @@ class Worker:
                     engine.take_back(response.message)
 
     async def start(self) -> None:
-        self.running = [asyncio.ensure_future(issuer.run()) for issuer in self.issuers]
-        self.lives = [asyncio.ensure_future(engine.run()) for engine in self.engines.values()]
+        self.running = [guarded(issuer.run(), self.log) for issuer in self.issuers]
+        self.lives = [guarded(engine.run(), self.log) for engine in self.engines.values()]
         self.link.connect()
         await self.link.came_up.wait()
         if not await all_ready(list(self.engines.values())):
