@@ -117,8 +117,9 @@ def warmed(front):
     client = Client(front.port)
     for card in range(900_000, 900_008):
         for stan in range(1, 60):
-            answer = client.ask(request(card, stan, sent=WARMING))
-            if answer[1].get(39) == b"00":
+            client.send(request(card, stan, sent=WARMING))
+            answer = client.receive(2)
+            if answer is not None and answer[1].get(39) == b"00":
                 break
             time.sleep(0.1)
     client.close()
@@ -129,7 +130,7 @@ def answered(bench):
     with running(bench) as ((front,), (machine,), issuer):
         client = Client(front.port)
         wanted("a network test", client.ask(NETWORK_TEST)[0], b"0810")
-        client.send(*[request(card, 1) for card in range(10)], reversal(3, 1))
+        client.send(*[request(card, card) for card in range(10)], reversal(3, 3))
         types = sorted(client.receive()[0] for _ in range(11))
         wanted("the answers", types, [b"0110"] * 10 + [b"0410"])
         wanted("at the issuer", len(issuer.authorizations()), 10)
@@ -140,10 +141,9 @@ def returned_to_the_worker(bench):
     """G4: a gateway ends while the issuer has its requests; the broker returns the responses, and the worker reverses
     the approvals."""
     with running(bench, delay=1.2) as ((front,), _, issuer):
-        client, records = Client(front.port), []
-        for card in range(2):
-            client.send(request(card, 1))
-            records.append(load.Record(card, 1, time.monotonic(), load.State.GONE))
+        client = Client(front.port)
+        client.send(request(0, 0), request(1, 1))
+        records = [load.Record(card, card, time.monotonic(), load.State.GONE) for card in range(2)]
         awaited("the issuer has both", lambda: len(issuer.authorizations()) == 2)
         front.kill()
         wanted("the faults", settled(records, issuer, 0, 5), [])

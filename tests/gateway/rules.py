@@ -37,11 +37,11 @@ def window_and_wait(bench):
     sees them."""
     with served(bench, *ONE, "--window", "2", "--wait", "0.5", "--late", "9", delay=1.0) as (gateway, issuer):
         client = Client(gateway.port)
-        client.send(*[request(card, 1) for card in range(6)])
+        client.send(*[request(card, card) for card in range(6)])
         wanted("the answers", [client.receive(it) is not None for it in (8, 8, 1)], [True, True, False])
         wanted("authorizations at the issuer", len(issuer.authorizations()), 2)
         # (a reversal waits as long as it takes)
-        client.send(*[request(card, 2) for card in range(10, 12)], reversal(12, 2))
+        client.send(*[request(card, card) for card in range(10, 12)], reversal(12, 12))
         types = sorted(client.receive()[0] for _ in range(3))
         wanted("the answers with a reversal", types, [b"0110", b"0110", b"0410"])
 
@@ -63,7 +63,7 @@ def handed_over_once(bench):
     """G3: what an engine had when it was killed is not handed to the next one."""
     with served(bench, *ONE, "--wait", "8", "--late", "9", delay=2.0) as (gateway, issuer):
         client = Client(gateway.port)
-        client.send(*[request(card, 1) for card in range(2)])
+        client.send(*[request(card, card) for card in range(2)])
         awaited("the issuer has both", lambda: len(issuer.authorizations()) == 2)
         os.kill(gateway.engines()[0], signal.SIGKILL)
         awaited("the engine is back", lambda: len(gateway.events("engine_ready")) == 2)
@@ -75,21 +75,21 @@ def handed_over_once(bench):
 def gone_and_late(bench):
     """G4: an approval whose client is gone, and one that comes late, is reversed at the issuer; all is accounted
     for."""
-    with served(bench, "--wait", "0.3", "--late", "0.6", delay=0.4) as (gateway, issuer):
+    with served(bench, "--wait", "0.8", "--late", "1.2", delay=0.4) as (gateway, issuer):
         records, begin = [], len(issuer.ledger)
         for card in range(8):
             client = Client(gateway.port)
-            client.send(request(card, 1))
-            records.append(load.Record(card, 1, time.monotonic(), load.State.GONE))
+            client.send(request(card, card))
+            records.append(load.Record(card, card, time.monotonic(), load.State.GONE))
             time.sleep(0.02)
             client.go()
         time.sleep(0.8)
-        issuer.delay = 0.9
+        issuer.delay = 1.5
         waiting = Client(gateway.port)
         waiting.send(request(20, 1))
-        wanted("an answer that is too late", waiting.receive(1.5), None)
+        wanted("an answer that is too late", waiting.receive(2.2), None)
         records.append(load.Record(20, 1, time.monotonic(), load.State.GONE))
-        wanted("the faults", settled(records, issuer, begin, 3), [])
+        wanted("the faults", settled(records, issuer, begin, 4), [])
         wanted("approved at the issuer", len({it.key for it in issuer.authorizations()}) >= 9, True)
 
 
@@ -179,7 +179,7 @@ def finishes_what_it_took(bench):
     status is 0."""
     with served(bench, delay=0.8) as (gateway, issuer):
         client, gone, idle = (Client(gateway.port) for _ in range(3))
-        client.send(*[request(card, 1) for card in range(3)])
+        client.send(*[request(card, card) for card in range(3)])
         gone.send(request(9, 1))
         awaited("the issuer has all", lambda: len(issuer.authorizations()) == 4)
         gone.go()
@@ -229,7 +229,7 @@ def open_requests(bench):
     words = "--open", "20", "--wait", "10", "--late", "20"
     with served(bench, *ONE, *words, delay=0.6) as (gateway, _):
         client = Client(gateway.port)
-        client.send(*[request(card, 1) for card in range(200)])
+        client.send(*[request(card, card) for card in range(200)])
         time.sleep(0.4)
         gateway.stop()
         wanted("open requests", [it["open_requests"] for it in gateway.events("stopping")], [20])

@@ -27,12 +27,13 @@ svg rect.passed { fill: #f4f6f8; stroke: #b8c4cf } svg rect.taken { fill: #dcefe
 svg .way { fill: none; stroke: #11703c; stroke-width: 2; opacity: .35 }
 """
 SCRIPT = """
-const main = document.querySelector("main");
+const main = document.querySelector("main"), lost = document.querySelector("#lost");
 setInterval(async () => {
   try {
     const answer = await fetch("/part");
-    if (answer.ok) { main.innerHTML = await answer.text(); document.body.classList.remove("lost"); }
-  } catch { document.querySelector("#lost").hidden = false; }
+    if (answer.ok) main.innerHTML = await answer.text();
+    lost.hidden = answer.ok;
+  } catch { lost.hidden = false; }
 }, 1000);
 """
 NOTE = (

@@ -9,6 +9,8 @@ import subprocess
 
 # How many paths are kept, and how many steps of one.
 MOST, STEPS = 200, 200
+# Type and STAN of the network tests that idle engines get: nobody looks for their paths.
+GATEWAY_TEST = ("0800", "000000")
 # Sizes in the picture.
 WIDTH, HEIGHT, GAP, MARGIN = 190, 34, 16, 24
 GROUP = re.compile(r'subgraph group(\d+) \["(.*)"\]')
@@ -33,6 +35,12 @@ class Path:
     steps: list[Step] = dataclasses.field(default_factory=list)
     record: dict[str, object] = dataclasses.field(default_factory=dict)
 
+    @property
+    def name(self) -> tuple[str, str, str, str]:
+        """By what a request is found: its engine, its type, its STAN and its masked card."""
+        type_, stan, card = (str(self.record.get(it, "")) for it in ("type", "stan", "card"))
+        return self.engine, type_, stan, card
+
 
 class Paths:
     """The last paths of all engines, by the lines of their traces as JSON."""
@@ -40,7 +48,7 @@ class Paths:
     def __init__(self) -> None:
         self.open: dict[tuple[str, int], Path] = {}
         self.ended: collections.OrderedDict[tuple[str, int], Path] = collections.OrderedDict()
-        # By engine, type, STAN and masked card: the last one of these.
+        # By their names: the last one of each.
         self.known: dict[tuple[str, str, str, str], tuple[str, int]] = {}
 
     def line(self, engine: str, text: str) -> None:
@@ -56,24 +64,22 @@ class Paths:
         path = self.open.get(key)
         if path is None:
             return
-        if "participant" in told and len(path.steps) < STEPS:
-            step = (
-                Step(told["group"], told["index"], told["call"], told.get("phase", ""), told.get("rc", ""))
-                if "group" in told
-                else None
-            )
-            path.steps += [step] if step else []
+        if "group" in told and len(path.steps) < STEPS:
+            phase, code = told.get("phase", ""), told.get("rc", "")
+            path.steps.append(Step(told["group"], told["index"], told["call"], phase, code))
         if told.get("next", {}).get("call") in ("done", "shelve"):
             path.record = told.get("record", {})
             self.end(key)
 
     def end(self, key: tuple[str, int]) -> None:
-        path = self.ended[key] = self.open.pop(key)
-        record = path.record
-        self.known[key[0], str(record.get("type")), str(record.get("stan", "")), str(record.get("card", ""))] = key
+        path = self.open.pop(key)
+        if path.name[1:3] == GATEWAY_TEST:
+            return
+        self.ended[key], self.known[path.name] = path, key
         if len(self.ended) > MOST:
-            old, _ = self.ended.popitem(last=False)
-            self.known = {name: at for name, at in self.known.items() if at != old}
+            old, gone = self.ended.popitem(last=False)
+            if self.known.get(gone.name) == old:
+                del self.known[gone.name]
 
     def find(self, engine: str, mti: str, stan: str, card: str) -> int | None:
         """The number of the transaction that had this request."""
