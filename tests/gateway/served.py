@@ -62,8 +62,10 @@ def awaited(what, found, seconds=SECONDS):
 
 
 def python():
-    """Debian's Python if it is there, since aiohttp, uvloop and pika are its packages; otherwise the one that runs
-    the test."""
+    """Debian's Python if it is there, since aiohttp, uvloop and pika are its packages; otherwise the one that runs the
+    test. GATEWAY_PYTHON in the environment names another one, such as one without these packages."""
+    if named := os.environ.get("GATEWAY_PYTHON"):
+        return named
     debian = "/usr/bin/python3"
     asked = [debian, "-c", "import sys; sys.exit(sys.version_info < (3, 11))"]
     is_there = os.access(debian, os.X_OK) and subprocess.run(asked, check=False).returncode == 0
