@@ -86,6 +86,11 @@ class Bench:
     queues: str
     without: str | None = None
 
+    @property
+    def patience(self):
+        """How long reversals may take, in seconds. Without the rule none come."""
+        return 2 if self.without else 8
+
     def over(self, nodes):
         return ["--amqp", self.cluster.url(*nodes), "--of", str(SHARDS), "--queues", self.queues]
 
@@ -146,7 +151,7 @@ def returned_to_the_worker(bench):
         records = [load.Record(card, card, time.monotonic(), load.State.GONE) for card in range(2)]
         awaited("the issuer has both", lambda: len(issuer.authorizations()) == 2)
         front.kill()
-        wanted("the faults", settled(records, issuer, 0, 5), [])
+        wanted("the faults", settled(records, issuer, 0, bench.patience), [])
 
 
 def frozen_before_it_asks(bench):
@@ -172,7 +177,7 @@ def frozen_before_it_asks(bench):
         owner.signal_all(signal.SIGCONT)
         awaited("the first machine asks the issuer", issuer.authorizations)
         record = load.Record(1, 1, time.monotonic(), load.State.REVERSED)
-        wanted("the faults", settled([record], issuer, 0, 5), [])
+        wanted("the faults", settled([record], issuer, 0, bench.patience), [])
 
 
 def settled(records, issuer, begin, seconds):
@@ -204,7 +209,7 @@ async def under_faults(bench, work, fronts, machines):
     """What was done to which part."""
     chosen, happened = random.Random(5), []
     load_task = asyncio.ensure_future(work.run(90))
-    for turn, what in enumerate(["worker", "freeze", "front", "node", "worker"]):
+    for turn, what in enumerate(["worker", "freeze", "front", "node"]):
         await asyncio.sleep(2)
         place = chosen.randrange(2)
         happened.append(what)
@@ -285,6 +290,8 @@ def main():
         sys.exit(f"there is no program {program}: ./test builds it, or name one by --program")
     began, passed, failed = time.monotonic(), 0, 0
     signal.signal(signal.SIGALRM, overdue)
+    # (so that the nodes are ended too)
+    signal.signal(signal.SIGTERM, lambda *_: sys.exit(1))
     with tempfile.TemporaryDirectory(ignore_cleanup_errors=True) as room, rabbit.cluster(
         f"{room}/rabbit", given.nodes
     ) as nodes:

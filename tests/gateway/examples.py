@@ -10,6 +10,7 @@ import socket
 import ssl
 import subprocess
 
+from cardgate.process import ends_with
 from model import messages
 
 from gateway import rabbit
@@ -61,7 +62,8 @@ def fronted(bench, gateway, port):
     path = os.path.join(bench.room, "haproxy.cfg")
     with open(path, "w", encoding="utf-8") as file:
         file.write(text.replace("/etc/cardswitch", bench.room))
-    with subprocess.Popen([shutil.which("haproxy") or "", "-db", "-f", path], stderr=subprocess.DEVNULL) as proxy:
+    command = [shutil.which("haproxy") or "", "-db", "-f", path]
+    with subprocess.Popen(command, stderr=subprocess.DEVNULL, preexec_fn=ends_with(os.getpid())) as proxy:
         try:
             awaited("haproxy listens", lambda: rabbit.accepts(port))
             yield
@@ -107,7 +109,8 @@ def by_the_page(bench):
     begin = begin.replace("python3 ", f"exec {python()} ", 1).strip()
     begin += f" --program {bench.program} --listen 127.0.0.1:{port} --web 127.0.0.1:{web} --folder {bench.room}/engines"
     with open(log, "wb") as file:
-        gateway = subprocess.Popen(["sh", "-c", begin], cwd=TOP, stderr=file, stdin=subprocess.DEVNULL)
+        streams = {"stderr": file, "stdin": subprocess.DEVNULL}
+        gateway = subprocess.Popen(["sh", "-c", begin], cwd=TOP, preexec_fn=ends_with(os.getpid()), **streams)
     try:
         awaited("the gateway is ready", lambda: b'"ready"' in contents(log))
         os.symlink(bench.program, os.path.join(bench.room, "cardswitch"))
