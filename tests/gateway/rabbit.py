@@ -56,7 +56,9 @@ class Cluster:
         command = [shutil.which("epmd"), "-port", str(self.mapper), "-address", "127.0.0.1"]
         self.names = subprocess.Popen(command, stdout=subprocess.DEVNULL, preexec_fn=ends_with(os.getpid()))
         self.nodes = {}
-        for node in range(number):
+
+    def start_all(self):
+        for node in range(self.number):
             self.start(node)
         for port in self.ports:
             awaited(f"RabbitMQ at port {port}", lambda port=port: accepts(port), START)
@@ -113,10 +115,9 @@ def private(path, flags):
 
 @contextlib.contextmanager
 def cluster(folder, number):
-    made = None
+    made = Cluster(folder, number)
     try:
-        made = Cluster(folder, number)
+        made.start_all()
         yield made
     finally:
-        if made is not None:
-            made.close()
+        made.close()
