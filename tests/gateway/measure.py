@@ -2,7 +2,8 @@
 """Measures the gateway: requests a second, median and 99th percentile, and the processor time of a request in the
 gateway.
 
-    tests/gateway/measure.py [--program PATH | --fast] [--engines 1,2,4] [--connections N] [--requests N] [--kills]
+    tests/gateway/measure.py [--program PATH | --fast] [--engines 1,2,4] [--connections N] [--requests N]
+        [--kills [--every S]]
 
 With --fast the engines cost nothing, so that the gateway is what is measured. Each connection has one request open at
 a time. The issuer answers at once. With --kills an engine is killed each second, and the gateway each fifth time;
@@ -29,6 +30,8 @@ from gateway.fronts import warmed  # noqa: E402
 from gateway.issuer import Issuer  # noqa: E402
 from gateway.served import serving  # noqa: E402
 
+# How long stored reversals may take after the last kill, in seconds.
+SETTLED = 90
 FAST = os.path.join(HERE, "fast_engine.py")
 
 
@@ -39,10 +42,10 @@ def seconds_of(pid):
     return (int(parts[11]) + int(parts[12])) / os.sysconf("SC_CLK_TCK")
 
 
-async def killing(gateway, chosen):
+async def killing(gateway, chosen, every):
     turn = 0
     while True:
-        await asyncio.sleep(1)
+        await asyncio.sleep(every)
         turn += 1
         if turn % 5 == 0:
             gateway.kill()
@@ -53,11 +56,23 @@ async def killing(gateway, chosen):
 
 
 async def worked(work, gateway, given):
-    task = asyncio.ensure_future(killing(gateway, random.Random(3))) if given.kills else None
+    task = asyncio.ensure_future(killing(gateway, random.Random(3), given.every)) if given.kills else None
     is_over = await work.run(given.seconds)
     if task is not None:
         task.cancel()
+        if gateway.process.poll() is not None:
+            await gateway.start_again()
     return is_over
+
+
+def accounted(work, issuer, begin):
+    """Prints what became of the requests, and the faults that are left once the stored reversals have had their time."""
+    until = time.monotonic() + SETTLED
+    while (faults := load.account(work.records, issuer.ledger[begin:])[1]) and time.monotonic() < until:
+        time.sleep(1)
+    found, _ = load.account(work.records, issuer.ledger[begin:])
+    print("  " + "; ".join(f"{number} {what}" for what, number in sorted(found.items())))
+    print(f"  {len(faults)} faults {faults[:3]}", flush=True)
 
 
 def measured(given, engines):
@@ -81,10 +96,7 @@ def measured(given, engines):
                 line += f", {1e6 * used / len(work.records):.0f} µs of processor time in the gateway for each"
             print(line + ("" if is_over else "; not all were over"), flush=True)
             if given.kills:
-                time.sleep(10)
-                found, faults = load.account(work.records, issuer.ledger[begin:])
-                print("  " + "; ".join(f"{number} {what}" for what, number in sorted(found.items())))
-                print(f"  {len(faults)} faults {faults[:3]}", flush=True)
+                accounted(work, issuer, begin)
     finally:
         issuer.close()
 
@@ -98,6 +110,7 @@ def main():
     parser.add_argument("--requests", type=int, default=10_000)
     parser.add_argument("--seconds", type=float, default=600, help="how long a run may take")
     parser.add_argument("--kills", action="store_true")
+    parser.add_argument("--every", type=float, default=4)
     given = parser.parse_args()
     given.program = FAST if given.fast else os.path.abspath(given.program)
     for engines in given.engines.split(","):
