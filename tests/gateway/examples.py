@@ -31,7 +31,7 @@ def units_of_systemd(bench):
         unit = configparser.ConfigParser(interpolation=None, strict=False)
         unit.optionxform = str
         unit.read(os.path.join(folder, name))
-        program, script, *words = unit["Service"]["ExecStart"].split()
+        program, script, *words = unit["Service"]["ExecStart"].replace("\\\n", " ").split()
         wanted(f"{name}: its command", [program, script], ["/usr/bin/python3", "/opt/woadspindle/contrib/gateway"])
         form = FORMS.get(words[0], Form.HERE)
         given = parser_of(form).parse_args(words if form is Form.HERE else words[1:])

@@ -65,7 +65,7 @@ class Acquirer(asyncio.Protocol):
         tells them apart."""
         if self.record is None and self.transport is not None and self.load.take():
             self.stan += 1
-            card = self.number * 10**6 + self.load.cards_of(self.stan)
+            card = self.number * 10**6 + self.stan
             self.record = Record(card, self.stan, time.monotonic())
             self.load.records.append(self.record)
             self.transport.write(messages.framed(clients.request(card, self.stan)))
@@ -85,7 +85,7 @@ class Acquirer(asyncio.Protocol):
     def came(self, mti: bytes, fields: dict[int, bytes]) -> None:
         record = self.record
         if record is None or (fields.get(2), fields.get(11)) != record.key[:2]:
-            self.load.note_stray(mti, fields)
+            self.load.strays.append((self.number, fields))
         elif mti == b"0110":
             record.answers += 1
             if record.state is State.ASKED:
@@ -119,19 +119,16 @@ class Load:
         self.ports, self.left, self.timeout = ports, requests, timeout
         self.records: list[Record] = []
         self.times: list[float] = []
-        # Answers that no request of their connection waits for: too late ones, and those of another one's request.
-        self.strays: list[tuple[bytes, dict[int, bytes]]] = []
+        # Answers that no request of their connection waits for any more, with the connection's number.
+        self.strays: list[tuple[int, dict[int, bytes]]] = []
         self.acquirers = [Acquirer(self, number) for number in range(connections)]
 
-    def cards_of(self, stan: int) -> int:
-        return stan
-
     def take(self) -> bool:
-        self.left -= self.left > 0
-        return self.left > 0
-
-    def note_stray(self, mti: bytes, fields: dict[int, bytes]) -> None:
-        self.strays.append((mti, fields))
+        """Whether there is one more request to be sent; it counts as sent."""
+        if self.left <= 0:
+            return False
+        self.left -= 1
+        return True
 
     @property
     def is_over(self) -> bool:
@@ -148,7 +145,6 @@ class Load:
     async def run(self, seconds: float) -> bool:
         """Whether all requests were over within so many seconds."""
         until = time.monotonic() + seconds
-        self.left += 1
         while not self.is_over and time.monotonic() < until:
             for acquirer in self.acquirers:
                 if acquirer.transport is None:
@@ -163,12 +159,9 @@ class Load:
 
 
 def strays_faults(load: Load) -> list[str]:
-    """An answer has to be one of its own connection's requests."""
-    own = {(record.card // 10**6, record.key[:2]) for record in load.records}
-    known = {key for _, key in own}
-    return [
-        "an answer to a request of nobody" for _, fields in load.strays if (fields.get(2), fields.get(11)) not in known
-    ]
+    """An answer that comes when its request is over has to be of its own connection all the same: the card tells."""
+    cards = ((number, int(fields.get(2, b"40")[1:])) for number, fields in load.strays)
+    return [f"connection {number} got an answer of card {card}" for number, card in cards if card // 10**6 != number]
 
 
 def account(records: list[Record], ledger: list[Entry]) -> tuple[collections.Counter, list[str]]:

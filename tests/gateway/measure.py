@@ -66,7 +66,7 @@ async def worked(work, gateway, given):
 
 
 def accounted(work, issuer, begin):
-    """Prints what became of the requests, and the faults that are left once the stored reversals have had their time."""
+    """Prints what became of the requests, and the faults that are left once stored reversals have had their time."""
     until = time.monotonic() + SETTLED
     while (faults := load.account(work.records, issuer.ledger[begin:])[1]) and time.monotonic() < until:
         time.sleep(1)
