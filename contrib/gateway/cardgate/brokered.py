@@ -81,7 +81,8 @@ class BrokerGateway:
     async def ticks(self) -> None:
         while True:
             await asyncio.sleep(TICK)
-            self.front.forget(self.limits.silent)
+            # (what comes later than that is delivered to nobody)
+            self.front.forget(self.limits.late + 2 * ON_THE_WAY)
             self.reversals.repeat_after(REPEATED_AFTER)
 
     async def start(self) -> None:

@@ -81,11 +81,18 @@ def shards_of(text: str, number: int) -> list[int]:
     return sorted(shards)
 
 
-def settings_of(form: Form, given: argparse.Namespace) -> Settings:
+def limits_of(given: argparse.Namespace, has_engines: bool) -> Limits:
     if given.late <= given.wait:
         raise Refused(f"--late: found {given.late}; expected more than --wait, which is {given.wait}")
+    if not has_engines:
+        return Limits(wait=given.wait, late=given.late)
     if given.silent <= given.late:
         raise Refused(f"--silent: found {given.silent}; expected more than --late, which is {given.late}")
+    return Limits(given.window, given.wait, given.late, given.silent)
+
+
+def settings_of(form: Form, given: argparse.Namespace) -> Settings:
+    limits = limits_of(given, form is not Form.FRONT)
     engines = None if form is Form.FRONT else engines_of(given)
     broker = None if form is Form.HERE else broker_of(given)
     is_front = form is not Form.WORKER
@@ -95,7 +102,7 @@ def settings_of(form: Form, given: argparse.Namespace) -> Settings:
         engines=engines,
         number=given.engines if form is Form.HERE else 0,
         issuers=[] if engines is None else issuers_of(given, engines.config),
-        limits=Limits(16 if engines is None else given.window, given.wait, given.late, given.silent),
+        limits=limits,
         bounds=Bounds(given.open, given.unread, given.clients) if is_front else Bounds(),
         patience=given.patience,
         broker=broker,

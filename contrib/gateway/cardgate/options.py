@@ -58,13 +58,14 @@ def seconds_of(text: str) -> float:
     return seconds
 
 
-def time_options(add: Add) -> None:
+def time_options(add: Add, has_engines: bool) -> None:
     def seconds(option: str, default: int, told: str) -> None:
         add(option, metavar="S", type=seconds_of, default=default, help=f"{told} {SHOWN}")
 
     seconds("--wait", 2, "how long an authorization may wait for its engine")
     seconds("--late", 4, "an approval that comes later is reversed, and not delivered")
-    seconds("--silent", 30, "a request that its engine has had for so long gets no response")
+    if has_engines:
+        seconds("--silent", 30, "a request that its engine has had for so long gets no response")
     seconds("--patience", 60, "at the end, how long what is unfinished may take")
 
 
@@ -124,8 +125,9 @@ def parser_of(form: Form) -> argparse.ArgumentParser:
         add("--shards", metavar="K,K-K", required=True, help="the shards of this worker, as in 0,1 or 0-31")
     else:
         client_options(add)
-    if form is not Form.FRONT:
+    has_engines = form is not Form.FRONT
+    if has_engines:
         engine_options(add)
-    time_options(add)
+    time_options(add, has_engines)
     add("--web", metavar="HOST:PORT", default=page, help=f"where the page and /metrics are, or off {SHOWN}")
     return parser

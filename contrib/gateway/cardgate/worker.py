@@ -35,7 +35,7 @@ class Worker:
         self.engines: dict[int, Engine] = {}
         for shard in settings.shards:
             engine = Engine(str(shard), command, os.path.join(engines.folder, f"shard{shard}"), settings.limits, log)
-            engine.deliver = functools.partial(self.deliver, shard)
+            engine.deliver = self.deliver
             self.engines[shard] = engine
         self.issuers = [
             Issuer(it, lambda card, message: shard_of(card, message, broker.shards), log) for it in settings.issuers
@@ -43,8 +43,8 @@ class Worker:
         for issuer in self.issuers:
             for shard, engine in self.engines.items():
                 issuer.attach(shard, engine.name, engine.folder)
-        # By gateway and shard: what is on its way to the gateway.
-        self.lanes: dict[tuple[bytes, int], Lane] = {}
+        # By gateway: what is on its way to it.
+        self.lanes: dict[bytes, Lane] = {}
         self.link = Link(broker.urls, self.declare, log)
         self.properties = pika.BasicProperties(delivery_mode=1)
         self.tags: list[str] = []
@@ -81,17 +81,17 @@ class Worker:
                     taken = self.loop.time() - age_of(content[:HEADER])
                     self.engines[shard].submit(request_of(content[:HEADER], content[HEADER:], taken))
 
-    def deliver(self, shard: int, request: Request, response: bytes) -> bool:
+    def deliver(self, request: Request, response: bytes) -> bool:
         """Sends a response to the gateway that waits for it. What the broker does not take is reversed later (rule
         G4)."""
-        key = request.header[:4], shard
-        if key not in self.lanes:
-            self.lanes[key] = Lane(functools.partial(self.publish, *key))
-        self.lanes[key].add(request.header + response)
+        gateway = request.header[:4]
+        if gateway not in self.lanes:
+            self.lanes[gateway] = Lane(functools.partial(self.publish, gateway))
+        self.lanes[gateway].add(request.header + response)
         return True
 
-    def publish(self, gateway: bytes, shard: int, contents: list[bytes]) -> None:
-        del self.lanes[gateway, shard]
+    def publish(self, gateway: bytes, contents: list[bytes]) -> None:
+        del self.lanes[gateway]
         if not self.link.publish(responses(gateway), body_of(contents), self.properties, mandatory=True):
             self.take_back(contents)
 
