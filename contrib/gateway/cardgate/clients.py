@@ -84,7 +84,11 @@ class Client(asyncio.Protocol):
                 self.front.take(self, message)
         except BadFrame as fault:
             return self.end("bad_frame", fault=str(fault))
-        if not self.is_gone and not self.is_paused:
+        self.pause()
+
+    def pause(self) -> None:
+        """Reads nothing more for now."""
+        if not self.is_gone and not self.is_paused and not self.transport.is_closing():
             self.is_paused = True
             self.transport.pause_reading()
 
@@ -97,7 +101,7 @@ class Client(asyncio.Protocol):
             asyncio.get_running_loop().call_soon(self.go_on)
 
     def go_on(self) -> None:
-        if not self.is_gone and not self.front.is_stopped:
+        if not self.is_gone and not self.front.is_stopped and not self.transport.is_closing():
             self.transport.resume_reading()
             self.take()
 
@@ -203,9 +207,7 @@ class Front:
         for server in self.servers:
             server.close()
         for client in self.clients:
-            if not client.is_gone and not client.is_paused and not client.transport.is_closing():
-                client.is_paused = True
-                client.transport.pause_reading()
+            client.pause()
 
     async def close(self, seconds: float = 2.0) -> None:
         """Closes the connections once their responses are written."""
