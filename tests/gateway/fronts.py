@@ -1,6 +1,7 @@
 """Cases of clients, and of the connection to an issuer, with a gateway that serves."""
 
 import contextlib
+import random
 import time
 
 from model import messages
@@ -150,6 +151,36 @@ def issuer_away_and_back(bench):
         )
 
 
+def random_clients(bench):
+    """Clients that send whatever comes, in pieces, and go at any moment: the log has no fault, and others are served."""
+    chosen = random.Random(11)
+    with served(bench, "--open", "8", "--unread", "3000") as (gateway, _):
+        for _ in range(60):
+            client = Client(gateway.port)
+            with contextlib.suppress(OSError):
+                for _ in range(chosen.randrange(3)):
+                    client.socket.sendall(random_bytes(chosen))
+                    if chosen.random() < 0.3:
+                        client.receive(0.02)
+            client.go() if chosen.random() < 0.5 else client.close()
+        other = Client(gateway.port)
+        awaited("another client is answered", lambda: other.send(request(1, 1)) or other.receive(3))
+        wanted("the status", gateway.stop(), 0)
+        wanted("faults", gateway.events("internal_fault"), [])
+        with open(gateway.log, encoding="utf-8") as file:
+            wanted("lines that are not of the log", [it for it in file if not it.startswith("{")], [])
+
+
+def random_bytes(chosen):
+    """Requests, answers, unreadable messages and no messages at all, some of them cut."""
+    stan = chosen.randrange(1000)
+    kinds = [request(stan % 7, stan), reversal(stan % 7, stan), NETWORK_TEST, b"", b"0110", chosen.randbytes(30)]
+    data = b"".join(messages.framed(chosen.choice(kinds)) for _ in range(chosen.randrange(1, 8)))
+    if chosen.random() < 0.2:
+        data += chosen.randbytes(4)
+    return data[: chosen.randrange(1, len(data))] if chosen.random() < 0.4 else data
+
+
 def no_card_in_the_log(bench):
     """The log names STANs and no card number, whatever happens."""
     with served(bench, delay=0.3) as (gateway, _):
@@ -178,4 +209,5 @@ CASES = [
     answers_without_cards,
     issuer_away_and_back,
     no_card_in_the_log,
+    random_clients,
 ]

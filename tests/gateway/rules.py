@@ -81,7 +81,7 @@ def gone_and_late(bench):
             client = Client(gateway.port)
             client.send(request(card, card))
             records.append(load.Record(card, card, time.monotonic(), load.State.GONE))
-            time.sleep(0.02)
+            awaited("the issuer has it", lambda card=card: len(issuer.authorizations()) > card)
             client.go()
         time.sleep(0.8)
         issuer.delay = 1.5

@@ -125,6 +125,10 @@ def line_of_an_engine(bench):
     line.add(old), line.add(late)
     wanted("what has waited too long", line.over(5.0), [old])
     wanted("a reversal never waits too long", line.due(60.0), ([late], []))
+    gone = made(5, 5, taken=60.0)
+    gone.is_given_up = True
+    line.add(gone)
+    wanted("one whose client is gone", line.due(60.0), ([], [gone]))
 
 
 def header_alone(bench):

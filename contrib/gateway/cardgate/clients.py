@@ -37,7 +37,9 @@ class Client(asyncio.Protocol):
 
     def __init__(self, front: "Front") -> None:
         self.front, self.framer = front, Framer()
-        self.open_requests, self.is_gone, self.is_paused, self.said_unreadable = 0, False, False, False
+        self.is_gone = self.is_paused = self.said_unreadable = False
+        # Without an answer, by their headers.
+        self.requests: dict[bytes, Request] = {}
         self.out: list[tuple[Request, bytes]] = []
 
     def connection_made(self, transport: asyncio.BaseTransport) -> None:
@@ -54,6 +56,8 @@ class Client(asyncio.Protocol):
     def connection_lost(self, _: Exception | None) -> None:
         self.is_gone = True
         self.front.clients.discard(self)
+        for request in self.requests.values():
+            request.is_given_up = True
 
     def pause_writing(self) -> None:
         self.end("responses_not_read")
@@ -77,7 +81,7 @@ class Client(asyncio.Protocol):
         """Takes the whole messages that have come, up to the bound; the rest stays, and nothing more is read until
         there is room."""
         try:
-            while not self.is_gone and self.open_requests < self.front.bounds.requests:
+            while not self.is_gone and len(self.requests) < self.front.bounds.requests:
                 message = self.framer.pop()
                 if message is None:
                     return
@@ -92,10 +96,10 @@ class Client(asyncio.Protocol):
             self.is_paused = True
             self.transport.pause_reading()
 
-    def closed_request(self) -> None:
-        """One request fewer is open."""
-        self.open_requests -= 1
-        if self.is_paused and self.open_requests <= self.front.bounds.requests // 2 and not self.front.is_stopped:
+    def closed(self, header: bytes) -> None:
+        """This request is open no longer."""
+        self.requests.pop(header, None)
+        if self.is_paused and len(self.requests) <= self.front.bounds.requests // 2 and not self.front.is_stopped:
             self.is_paused = False
             # (not from within what the engine told: a request that is taken now could end there too)
             asyncio.get_running_loop().call_soon(self.go_on)
@@ -161,7 +165,7 @@ class Front:
             self.stats.no_response += 1
             return
         self.asked[request.header] = client, request
-        client.open_requests += 1
+        client.requests[request.header] = request
         self.submit(request)
 
     def deliver(self, header: bytes, response: bytes, engine: str) -> bool:
@@ -169,7 +173,7 @@ class Front:
         client, request = self.asked.pop(header, (None, None))
         if client is None or request is None:
             return False
-        client.closed_request()
+        client.closed(header)
         if client.is_gone:
             self.stats.undelivered += 1
             return False
@@ -193,7 +197,7 @@ class Front:
         """This request will get no answer."""
         client, _ = self.asked.pop(header, (None, None))
         if client is not None:
-            client.closed_request()
+            client.closed(header)
 
     def forget(self, seconds: float) -> None:
         """Closes the requests that are older than so many seconds."""

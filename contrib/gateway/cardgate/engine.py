@@ -62,6 +62,9 @@ class Engine:
         self.counts.dropped[why] += 1
         self.dropped(request, why)
 
+    def drop_over(self, request: Request) -> None:
+        self.drop(request, "its client is gone" if request.is_given_up else "waited too long")
+
     def flush(self) -> None:
         """Hands over what is due."""
         self.is_due = False
@@ -70,7 +73,7 @@ class Engine:
             return
         given, over = self.line.due(self.loop.time())
         for request in over:
-            self.drop(request, "waited too long")
+            self.drop_over(request)
         if given:
             self.counts.handed += len(given)
             out.write(b"".join(frame(request.header + request.message) for request in given))
@@ -209,7 +212,7 @@ class Engine:
             for request in self.line.unanswered(now):
                 self.unanswered(request)
             for request in self.line.over(now):
-                self.drop(request, "waited too long")
+                self.drop_over(request)
             if self.responses == before and not self.line.handed:
                 self.test()
             self.flush()

@@ -47,9 +47,10 @@ class Line:
         return True
 
     def is_over(self, request: Request, now: float) -> bool:
-        """Whether it has waited too long: its client is about to give it up, and the issuer could be asked after the
-        reversal."""
-        return request.kind is Kind.AUTHORIZATION and now - request.taken > self.limits.wait
+        """Whether its client is gone, or is about to give it up: it has waited too long, and the issuer could be asked
+        after the reversal."""
+        is_late = request.is_given_up or now - request.taken > self.limits.wait
+        return is_late and request.kind is Kind.AUTHORIZATION
 
     def due(self, now: float) -> tuple[list[Request], list[Request]]:
         """The requests that the engine gets now, and those that are dropped because they waited too long."""

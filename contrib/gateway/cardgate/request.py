@@ -52,6 +52,8 @@ class Request:
     taken: float
     # Made by the gateway or the worker itself: a reversal or a network test, whose answer no client waits for.
     is_own: bool = False
+    # Its client has gone.
+    is_given_up: bool = False
 
     def shard(self, shards: int) -> int:
         """The shard of its card; a message without a card goes by its own bytes."""
