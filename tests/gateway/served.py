@@ -132,13 +132,9 @@ class Running:
             raise Wrong(f"it had not ended {seconds} seconds after SIGTERM") from None
 
     def end(self):
-        """Ends it, however that goes."""
+        """Ends it at once, and its engines with it."""
         if self.process is not None and self.process.poll() is None:
-            self.process.terminate()
-            try:
-                self.process.wait(3)
-            except subprocess.TimeoutExpired:
-                self.kill()
+            self.kill()
 
 
 def configured(room):
