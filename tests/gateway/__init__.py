@@ -1,0 +1,1 @@
+"""Helpers of tests/gateway.py and tests/broker.py."""

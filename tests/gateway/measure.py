@@ -1,0 +1,121 @@
+#!/usr/bin/env python3
+"""Measures the gateway: requests a second, median and 99th percentile, and the processor time of a request in the
+gateway.
+
+    tests/gateway/measure.py [--program PATH | --fast] [--engines 1,2,4] [--connections N] [--requests N]
+        [--kills [--every S]]
+
+With --fast the engines cost nothing, so that the gateway is what is measured. Each connection has one request open at
+a time. The issuer answers at once. With --kills an engine is killed each second, and the gateway each fifth time;
+then the accounting has to find no fault. `./test` does not run it.
+"""
+
+import argparse
+import asyncio
+import contextlib
+import os
+import random
+import signal
+import sys
+import tempfile
+import time
+
+sys.dont_write_bytecode = True
+HERE = os.path.dirname(os.path.abspath(__file__))
+sys.path[:0] = [os.path.dirname(HERE), os.path.join(os.path.dirname(os.path.dirname(HERE)), "contrib", "gateway")]
+
+import kills  # noqa: E402
+from gateway import load  # noqa: E402
+from gateway.fronts import warmed  # noqa: E402
+from gateway.issuer import Issuer  # noqa: E402
+from gateway.served import serving  # noqa: E402
+
+# How long stored reversals may take after the last kill, in seconds.
+SETTLED = 90
+FAST = os.path.join(HERE, "fast_engine.py")
+
+
+def seconds_of(pid):
+    """The processor time of a process so far."""
+    with open(f"/proc/{pid}/stat", encoding="ascii") as file:
+        parts = file.read().rpartition(")")[2].split()
+    return (int(parts[11]) + int(parts[12])) / os.sysconf("SC_CLK_TCK")
+
+
+async def killing(gateway, chosen, every):
+    turn = 0
+    while True:
+        await asyncio.sleep(every)
+        turn += 1
+        if turn % 5 == 0:
+            gateway.kill()
+            await gateway.start_again()
+        elif engines := gateway.engines():
+            with contextlib.suppress(ProcessLookupError):
+                os.kill(chosen.choice(engines), signal.SIGKILL)
+
+
+async def worked(work, gateway, given):
+    task = asyncio.ensure_future(killing(gateway, random.Random(3), given.every)) if given.kills else None
+    is_over = await work.run(given.seconds)
+    if task is not None:
+        task.cancel()
+        if gateway.process.poll() is not None:
+            await gateway.start_again()
+    return is_over
+
+
+def accounted(work, issuer, begin):
+    """Prints what became of the requests, and the faults that are left once stored reversals have had their time."""
+    until = time.monotonic() + SETTLED
+    while (faults := load.account(work.records, issuer.ledger[begin:])[1]) and time.monotonic() < until:
+        time.sleep(1)
+    found, _ = load.account(work.records, issuer.ledger[begin:])
+    print("  " + "; ".join(f"{number} {what}" for what, number in sorted(found.items())))
+    print(f"  {len(faults)} faults {faults[:3]}", flush=True)
+
+
+def measured(given, engines):
+    """One run; prints its line."""
+    issuer, room = Issuer(), tempfile.mkdtemp()
+    times = ["--wait", "5", "--late", "8"] if not given.kills else ["--wait", "1", "--late", "2"]
+    try:
+        with serving(given.program, room, "--engines", str(engines), *times, issuer=issuer) as gateway:
+            if not given.fast:
+                warmed(gateway)
+            begin, before = len(issuer.ledger), seconds_of(gateway.process.pid)
+            work = load.Load([gateway.port], given.connections, given.requests, 3.0 if given.kills else 10.0)
+            began = time.monotonic()
+            is_over = asyncio.run(worked(work, gateway, given))
+            took, used = time.monotonic() - began, seconds_of(gateway.process.pid) - before
+            shown = sorted(work.times) or [0.0]
+            share = lambda part: 1000 * shown[min(len(shown) - 1, int(part * len(shown)))]  # noqa: E731
+            line = f"{engines} engines: {len(work.records) / took:.0f} requests a second, "
+            line += f"median {share(0.5):.1f} ms, 99th percentile {share(0.99):.1f} ms"
+            if not given.kills:
+                line += f", {1e6 * used / len(work.records):.0f} µs of processor time in the gateway for each"
+            print(line + ("" if is_over else "; not all were over"), flush=True)
+            if given.kills:
+                accounted(work, issuer, begin)
+    finally:
+        issuer.close()
+
+
+def main():
+    parser = argparse.ArgumentParser(description="Measures the gateway.")
+    parser.add_argument("--program", default=kills.BUILT)
+    parser.add_argument("--fast", action="store_true")
+    parser.add_argument("--engines", default="1,2,4")
+    parser.add_argument("--connections", type=int, default=64)
+    parser.add_argument("--requests", type=int, default=10_000)
+    parser.add_argument("--seconds", type=float, default=600, help="how long a run may take")
+    parser.add_argument("--kills", action="store_true")
+    parser.add_argument("--every", type=float, default=4)
+    given = parser.parse_args()
+    given.program = FAST if given.fast else os.path.abspath(given.program)
+    for engines in given.engines.split(","):
+        measured(given, int(engines))
+
+
+if __name__ == "__main__":
+    main()
