@@ -24,7 +24,7 @@ _cardswitch() {
                 mapfile -t COMPREPLY < <(compgen -W "end" -- "$word")
                 return
             } ;;
-        --limit | --limit=)
+        --header | --header= | --limit | --limit=)
             return ;;
     esac
     if [[ $COMP_CWORD -eq 1 ]]; then
@@ -37,7 +37,7 @@ _cardswitch() {
             decode) words="--mask --help" ;;
             recover) words="--flow --config --journal --help" ;;
             check) words="--flow --config --help" ;;
-            run) words="--flow --config --journal --log --sessions --limit --threads --unordered --trace --stats --help" ;;
+            run) words="--flow --config --journal --log --sessions --header --limit --threads --unordered --trace --stats --help" ;;
             journal)
                 words="--json --clear --help"
                 [[ $word == -* ]] || mapfile -t files < <(compgen -f -- "$word") ;;

@@ -66,7 +66,7 @@ def cases(program, folder):
         options, files = options_in(text), sorted(os.listdir(folder)) if re.search(r"(cardswitch \w+|\]) <PATH>", usage) else []
         yield [command, ""], sorted([*options, *files])
         yield [command, "--"], options
-        yield [command, "--h"], ["--help"]
+        yield [command, "--h"], [it for it in options if it.startswith("--h")]
         for option in {"--flow", "--journal", "--log"} & set(options):
             yield [command, option, ""], sorted(os.listdir(folder))
             yield [command, option, "sw"], ["switch.toml"]

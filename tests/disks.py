@@ -11,6 +11,8 @@ prints and leaves is what the plain model makes of the rows. No transaction whos
 a request that got no response, or whose issuer is silent. A run without faults goes on with the file, whatever is in it, and leaves it
 sound.
 
+With `--threads` a disk that is full from one call on ends the run with status 3, though the input is open and nothing more comes.
+
 --all takes every call, --first the first N, and each fails in each way; otherwise --count of them are taken, spread evenly.
 """
 
@@ -21,6 +23,7 @@ import itertools
 import os
 import random
 import sqlite3
+import subprocess
 import sys
 import tempfile
 import time
@@ -91,6 +94,29 @@ def recovered_faults(program, path):
             yield from kills.end_faults(copy)
 
 
+def full_while_silent(shim, program, path, requests):
+    """What is wrong with a run by threads whose disk is full, once it has begun, and whose input stays open with nothing more to read."""
+    command = [program, "run", "--flow", kills.FLOW, "--journal", path, "--threads", "--sessions", "4"]
+    fresh(path)
+    # (so many calls are made without a request, those at the end included)
+    begun = shim.run(command, b"", PATH=path, WITH=str(errno.ENOSPC)).calls
+    fresh(path)
+    environment, _ = shim.environment(begun + 2, True, PATH=path, WITH=str(errno.ENOSPC))
+    pipes = {"stdin": subprocess.PIPE, "stdout": subprocess.PIPE, "stderr": subprocess.PIPE}
+    with subprocess.Popen(command, env=environment, **pipes) as run:
+        run.stdin.write(requests)
+        run.stdin.flush()
+        try:
+            status = run.wait(shims.SECONDS)
+        except subprocess.TimeoutExpired:
+            run.kill()
+            yield "it goes on"
+        else:
+            said = run.stderr.read().decode("utf-8", "replace")
+            if status != 3 or not said.startswith(f"cardswitch: {path}: "):
+                yield f"wanted status 3 and an error of {path}, came {status}: {said}"
+
+
 def arguments():
     """The words of the command line."""
     parser = argparse.ArgumentParser(description="Lets calls on the files of a journal fail.")
@@ -122,6 +148,10 @@ def main():
                 passed, failed = passed + (not found), failed + bool(found)
                 if found:
                     print(f"FAILED disks --seed {given.seed}: call {at} of {whole.calls}, {failure}: {'; '.join(found)}")
+        found = [*full_while_silent(shim, given.program, path, requests)]
+        passed, failed = passed + (not found), failed + bool(found)
+        if found:
+            print(f"FAILED disks: a full disk while the input is silent: {'; '.join(found)}")
     print(f"{time.monotonic() - began:.1f} seconds; calls of --seed {given.seed}, {whole.calls} in a run")
     print(f"{passed} passed, {failed} failed")
     return 1 if failed else 0

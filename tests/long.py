@@ -1,12 +1,13 @@
 #!/usr/bin/env python3
 """Serves a long stream of requests with `cardswitch run --trace`, and looks at what it writes and how much memory it takes.
 
-    tests/long.py [--requests N] [--kind test|authorization|silent] [--form text|json] [--most MEGABYTES] [--program PATH]
+    tests/long.py [--requests N] [--kind test|authorization|silent] [--form text|json] [--threads] [--most MEGABYTES] [--program PATH]
 
 Each request has to be answered, in order, and each line of the trace has to come once, in order: the plain model says which lines a
-request has, and what its response is. However long the stream is, at most 64 MB may be taken, and for authorizations also what the book
-keeps of each, and the advices of those whose issuer is silent. The default, 125,000 network tests, makes a history of a million entries;
-1,000,000 requests by hand take some minutes. The last line has the counts; the status is 1 if something is wrong.
+request has, and what its response is. With --threads there are 4 sessions and no trace. However long the stream is, at most 64 MB may
+be taken, or 128 MB with --threads, and for authorizations also what the book keeps of each, and the advices of those whose issuer is
+silent. The default, 125,000 network tests, makes a history of a million entries; 1,000,000 requests by hand take some minutes. The last
+line has the counts; the status is 1 if something is wrong.
 """
 
 import argparse
@@ -25,8 +26,9 @@ from model.switch import Switch  # noqa: E402
 
 TOP = os.path.dirname(os.path.dirname(os.path.abspath(__file__)))
 BUILT = os.path.join(TOP, "crates", "cardswitch", "out", "cardswitch")
-# The memory that a run may take, in MB, and what each request of a kind may leave, in bytes: what the book keeps, and advices.
-MOST, LEFT = 64, {"test": 0, "authorization": 320, "silent": 4096}
+# The memory that a run may take, in MB, and one by threads, whose heap has parts for each of them; and what each request of a kind may
+# leave, in bytes: what the book keeps, and advices.
+MOST, MOST_BY_THREADS, LEFT = 64, 128, {"test": 0, "authorization": 320, "silent": 4096}
 
 
 def network_test(stan):
@@ -116,17 +118,18 @@ class Reader(threading.Thread):
             self.wrong = f"after all that is wanted there is {rest[:200]!r}"
 
 
-def served(program, make, count, form):
+def served(program, make, count, form, threads):
     """What is wrong with a run of this many requests; its status, the memory that it took in MB, and its seconds."""
     with tempfile.TemporaryDirectory() as room:
         flow = f"{room}/flow.toml"
         with open(flow, "wb") as file:
             file.write(requests.flow_file(requests.whole_flow()))
         began = time.monotonic()
-        words, worked = [program, "run", "--flow", flow, f"--trace={form}"], Worked(make, form)
+        worked = Worked(make, form)
+        words = [program, "run", "--flow", flow, *(("--threads", "--sessions", "4") if threads else (f"--trace={form}",))]
         with subprocess.Popen(words, stdin=subprocess.PIPE, stdout=subprocess.PIPE, stderr=subprocess.PIPE) as run:
-            lines = (f"{line}\n".encode() for line in lines_of(worked, count))
-            readers = [Reader(run.stdout, frames_of(worked, count)), Reader(run.stderr, lines)]
+            lines = () if threads else (f"{line}\n".encode() for line in lines_of(worked, count))
+            readers = [Reader(run.stdout, frames_of(worked, count)), Reader(run.stderr, iter(lines))]
             texts = requests_of(make, count)
             try:
                 while piece := b"".join(islice(texts, 1_000)):
@@ -146,11 +149,14 @@ def main():
     parser.add_argument("--requests", type=int, default=125_000)
     parser.add_argument("--kind", choices=KINDS, default="test", help="network tests, or authorizations of cards of their own")
     parser.add_argument("--form", choices=("text", "json"), default="text", help="the form of the trace")
+    parser.add_argument("--threads", action="store_true", help="runs 4 sessions as threads, without a trace")
     parser.add_argument("--most", type=float, help="the memory that it may take, in MB")
     parser.add_argument("--program", default=BUILT)
     given = parser.parse_args()
-    most = given.most or MOST + given.requests * LEFT[given.kind] / 2**20
-    wrong, status, took, seconds = served(os.path.abspath(given.program), KINDS[given.kind], given.requests, given.form)
+    most = given.most or (MOST_BY_THREADS if given.threads else MOST) + given.requests * LEFT[given.kind] / 2**20
+    wrong, status, took, seconds = served(
+        os.path.abspath(given.program), KINDS[given.kind], given.requests, given.form, given.threads
+    )
     faults = [
         ("responses", wrong[0]),
         ("trace", wrong[1]),

@@ -27,12 +27,16 @@ class Shim:
         self.path, self.prefix, self.room, self.number = f"{room}/{name}.so", prefix, room, 0
         subprocess.run(["cc", "-O2", "-shared", "-fPIC", "-o", self.path, f"{SHIMS}/{name}.c"], check=True)
 
-    def run(self, words, stdin, at=0, goes_on=False, **more):
-        """Runs a command in which the call of this number fails (0: none), or all from that one on."""
+    def environment(self, at=0, goes_on=False, **more):
+        """The variables of such a command, and the file in which it counts its calls."""
         self.number += 1
         counts = f"{self.room}/{self.number}.count"
         its = {"AT": str(at), "COUNT": counts} | ({"ON": "1"} if goes_on else {}) | more
-        environment = os.environ | {"LD_PRELOAD": self.path} | {f"{self.prefix}_{key}": value for key, value in its.items()}
+        return os.environ | {"LD_PRELOAD": self.path} | {f"{self.prefix}_{key}": value for key, value in its.items()}, counts
+
+    def run(self, words, stdin, at=0, goes_on=False, **more):
+        """Runs a command in which the call of this number fails (0: none), or all from that one on."""
+        environment, counts = self.environment(at, goes_on, **more)
         try:
             came = subprocess.run(words, input=stdin, capture_output=True, env=environment, timeout=SECONDS, check=False)
         except subprocess.TimeoutExpired:

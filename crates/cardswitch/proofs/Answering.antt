@@ -46,10 +46,10 @@ taken P code config flow c one other h = rw (one, other) h
 answered_over : {S C : Type 0} (files : Ghosts S) (flow : Flow) (o : RunOptions) (c : Config) (setup : Setup (IssuerLink C)) (j : Seen)
     (unread before after : Option (List ℕ)) (r : Result (Unit {0}) RunError)
     → IsSetUp o c setup → TakesSetUp o.config flow c → IsFound files (journal_of o c) j
-    → OnOk r (Served setup.threads flow setup.sessions j (sender_of_setup (plain_setup setup)) setup.advices unread before after)
+    → OnOk r (Served setup.header setup.threads flow setup.sessions j (sender_of_setup (plain_setup setup)) setup.advices unread before after)
     → OnOk r (AnsweredBy files flow o c unread before after)
 answered_over files flow o c setup j unread before after r set_up takes found h =
-    on_ok _ _ r (λ (served : Served setup.threads flow setup.sessions j (sender_of_setup (plain_setup setup)) setup.advices unread before after). record {
+    on_ok _ _ r (λ (served : Served setup.header setup.threads flow setup.sessions j (sender_of_setup (plain_setup setup)) setup.advices unread before after). record {
       setup = plain_setup setup;
       within = set_up.within;
       is_set_up = set_up.plain;
@@ -62,7 +62,7 @@ answered_over files flow o c setup j unread before after r set_up takes found h 
 pub answered_by_file : {S C : Type 0} (files : Ghosts S) (flow : Flow) (o : RunOptions) (c : Config) (setup : Setup (IssuerLink C)) (path named : List ℕ)
     (journal : Kept S) (unread before after : Option (List ℕ)) (r : Result (Unit {0}) RunError)
     → IsSetUp o c setup → TakesSetUp o.config flow c → Some path ≡ journal_of o c → IsOfFile files path journal
-    → OnOk r (Served setup.threads flow setup.sessions (seen (kept files journal)) (sender_of_setup (plain_setup setup)) setup.advices unread before after)
+    → OnOk r (Served setup.header setup.threads flow setup.sessions (seen (kept files journal)) (sender_of_setup (plain_setup setup)) setup.advices unread before after)
     → OnOk (ended_at named r) (AnsweredBy files flow o c unread before after)
 answered_by_file files flow o c setup path named journal unread before after r set_up takes of_options opened h =
     done_at named (AnsweredBy files flow o c unread before after) r
@@ -72,7 +72,7 @@ answered_by_file files flow o c setup path named journal unread before after r s
 pub answered_in_memory : {S C : Type 0} (files : Ghosts S) (flow : Flow) (o : RunOptions) (c : Config) (setup : Setup (IssuerLink C))
     (journal : Kept MemStore) (unread before after : Option (List ℕ)) (r : Result (Unit {0}) RunError)
     → IsSetUp o c setup → TakesSetUp o.config flow c → None ≡ journal_of o c → IsNewJournal journal
-    → OnOk r (Served setup.threads flow setup.sessions (seen (kept over_memory journal)) (sender_of_setup (plain_setup setup)) setup.advices unread before
+    → OnOk r (Served setup.header setup.threads flow setup.sessions (seen (kept over_memory journal)) (sender_of_setup (plain_setup setup)) setup.advices unread before
     after)
     → OnOk r (AnsweredBy files flow o c unread before after)
 answered_in_memory files flow o c setup journal unread before after r set_up takes none opened h =

@@ -17,12 +17,12 @@ use Rattle.run_input.specs.declared.frames.StreamEnd.TheVariants.{Whole, BadLeng
 use Rattle.cardswitch.specs.Runs.{Served, link_step}
 
 -- what a run has read, done and written, as `run_switch` has it
-abbrev RanTo : Option ResponseOrder → Flow → ℕ → Seen → PlainSender → ℕ → Option (List ℕ) → Option (List ℕ) → Option (List ℕ) → Option Words → Log → Log →
+abbrev RanTo : ℕ → Option ResponseOrder → Flow → ℕ → Seen → PlainSender → ℕ → Option (List ℕ) → Option (List ℕ) → Option (List ℕ) → Option Words → Log → Log →
     StreamEnd → Type 0
-RanTo threads f n j sender most unread before after words k l end =
-    (frames : List (List ℕ)) × ReadTo end unread frames × (rounds : List Round) × RoundsFor threads (requests frames) rounds
+RanTo header threads f n j sender most unread before after words k l end =
+    (frames : List (List ℕ)) × ReadTo end unread frames × (rounds : List Round) × RoundsFor threads (requests header frames) rounds
     × (ran : Ran f n j link_step sender most rounds before after)
-    × TellsRun words (unfinished_in ran.begins.view) (all_lines ran.serves) (passed_over frames) ran.serves.end k l
+    × TellsRun words (unfinished_in ran.begins.view) (all_lines ran.serves) (passed_over header frames) ran.serves.end k l
 
 -- an end that is no error is that of a whole input
 whole : (P : StreamEnd → Type 0) (end : StreamEnd) → Ok tt ≡ result_of end → P end → P Whole
@@ -31,16 +31,16 @@ whole P (BadLength n) no_error h = cc
 whole P (Truncated k) no_error h = cc
 whole P (Unread e) no_error h = cc
 
-served_of : (threads : Option ResponseOrder) (f : Flow) (n : ℕ) (j : Seen) (sender : PlainSender) (most : ℕ) (unread before after : Option (List ℕ))
-    (words : Option Words) (k l : Log) → RanTo threads f n j sender most unread before after words k l Whole → Served threads f n j sender most unread before after
-served_of threads f n j sender most unread before after words k l h = record { frames = h.0; reads = h.1; rounds = h.2; answers = h.3; ran = h.4 }
+served_of : (header : ℕ) (threads : Option ResponseOrder) (f : Flow) (n : ℕ) (j : Seen) (sender : PlainSender) (most : ℕ) (unread before after : Option (List ℕ))
+    (words : Option Words) (k l : Log) → RanTo header threads f n j sender most unread before after words k l Whole → Served header threads f n j sender most unread before after
+served_of header threads f n j sender most unread before after words k l h = record { frames = h.0; reads = h.1; rounds = h.2; answers = h.3; ran = h.4 }
 
-pub served : {R : Type 0} (threads : Option ResponseOrder) (f : Flow) (n : ℕ) (j : Seen) (sender : PlainSender) (most : ℕ) (remaining : R → Option (List ℕ))
+pub served : {R : Type 0} (header : ℕ) (threads : Option ResponseOrder) (f : Flow) (n : ℕ) (j : Seen) (sender : PlainSender) (most : ℕ) (remaining : R → Option (List ℕ))
     (before after : Option (List ℕ)) (words : Option Words) (k l : Log) (end : StreamEnd) (input : Option R)
     → Ok tt ≡ result_of end
-    → IfSome input (λ reader. RanTo threads f n j sender most (remaining reader) before after words k l end)
-    → IfSome input (λ reader. Served threads f n j sender most (remaining reader) before after)
-served threads f n j sender most remaining before after words k l end None no_error h = h
-served threads f n j sender most remaining before after words k l end (Some reader) no_error h =
-    served_of threads f n j sender most (remaining reader) before after words k l
-    (whole (λ (e : StreamEnd). RanTo threads f n j sender most (remaining reader) before after words k l e) end no_error h)
+    → IfSome input (λ reader. RanTo header threads f n j sender most (remaining reader) before after words k l end)
+    → IfSome input (λ reader. Served header threads f n j sender most (remaining reader) before after)
+served header threads f n j sender most remaining before after words k l end None no_error h = h
+served header threads f n j sender most remaining before after words k l end (Some reader) no_error h =
+    served_of header threads f n j sender most (remaining reader) before after words k l
+    (whole (λ (e : StreamEnd). RanTo header threads f n j sender most (remaining reader) before after words k l e) end no_error h)

@@ -60,12 +60,12 @@ wanted AtEnd = Some None
 wanted (Every n) = Some (Some n)
 
 -- over this journal the requests of a whole input were answered, one after the other, or by threads in legs
-pub record Served (threads : Option ResponseOrder) (flow : Flow) (sessions : ℕ) (j : Seen) (sender : PlainSender) (advices : ℕ)
+pub record Served (header : ℕ) (threads : Option ResponseOrder) (flow : Flow) (sessions : ℕ) (j : Seen) (sender : PlainSender) (advices : ℕ)
     (unread before after : Option (List ℕ)) : Type 0 where
   pub frames : List (List ℕ)
   pub reads : ReadTo Whole unread frames
   pub rounds : List Round
-  pub answers : RoundsFor threads (requests frames) rounds
+  pub answers : RoundsFor threads (requests header frames) rounds
   pub ran : Ran flow sessions j link_step sender advices rounds before after
 
 -- `run` has answered the requests of its input by this flow and this configuration, over the journal that it found, set up as
@@ -78,7 +78,7 @@ pub record AnsweredBy {S : Type 0} (files : Ghosts S) (flow : Flow) (o : RunOpti
   pub taken : TakesSetUp o.config flow c
   pub journal : Seen
   pub found : IsFound files (journal_of o c) journal
-  pub served : Served setup.threads flow setup.sessions journal (sender_of_setup setup) setup.advices unread before after
+  pub served : Served setup.header setup.threads flow setup.sessions journal (sender_of_setup setup) setup.advices unread before after
 
 -- the same, with the configuration of the file that `--config` names
 pub record Answered {S : Type 0} (files : Ghosts S) (flow : Flow) (o : RunOptions)

@@ -58,7 +58,7 @@ fn run_over<
     out: &mut O,
 ) -> Result<(), RunError>
     ensures served { OnOk result (IfSome input
-        (λ reader. Served setup.threads code.now setup.sessions
+        (λ reader. Served setup.header setup.threads code.now setup.sessions
         (seen (kept S.Store journal)) (sender_of_setup (plain_setup setup)) setup.advices
         (R.remaining reader) (O.contents out.old) (O.contents out.new))) }
     ensures printed { OnOk result (IfNone input (Printed code.now setup.sessions

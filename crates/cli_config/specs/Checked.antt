@@ -55,6 +55,7 @@ pub record IsChecked (c : Config) : Type 0 where
   pub per_card : IfSome c.limits.per_card (IsIn 0 max_limit)
   pub stand_in : IfSome c.limits.stand_in (IsIn 0 max_amount)
   pub advices : IfSome c.run.advices (IsIn 0 256)
+  pub header : IfSome c.run.header (IsIn 0 64)
   pub sessions : IfSome c.run.sessions (IsIn 1 16)
   pub journal : IfSome c.run.journal IsPath
   pub log : IfSome c.run.log IsPath

@@ -61,10 +61,11 @@ limits_in None = record { per_card = None; stand_in = None }
 limits_in (Some ms) = record { per_card = number_at key.PerCard ms; stand_in = number_at key.StandIn ms }
 
 abbrev pub run_in : Option Members → run.RunTable
-run_in None = record { advices = None; allow = None; sessions = None; journal = None; log = None; threads = None; unordered = None }
+run_in None = record { advices = None; allow = None; header = None; sessions = None; journal = None; log = None; threads = None; unordered = None }
 run_in (Some ms) = record {
   advices = number_at key.Advices ms;
   allow = names_at key.Allow ms;
+  header = number_at key.Header ms;
   sessions = number_at key.Sessions ms;
   journal = text_if key.Journal ms;
   log = text_if key.Log ms;

@@ -26,7 +26,7 @@ keys_of section.Top = key.Host ∷ key.Limits ∷ key.Route ∷ key.Run ∷ []
 keys_of section.Host = key.EchoS ∷ key.From ∷ key.InFlight ∷ key.Name ∷ key.RetryMs ∷ key.Simulated ∷ key.HasStandIn ∷ key.TimeoutMs ∷ key.To ∷ []
 keys_of section.Route = key.Group ∷ key.Prefix ∷ []
 keys_of section.Limits = key.PerCard ∷ key.StandIn ∷ []
-keys_of section.Run = key.Advices ∷ key.Allow ∷ key.Journal ∷ key.Log ∷ key.Sessions ∷ key.Threads ∷ key.Unordered ∷ []
+keys_of section.Run = key.Advices ∷ key.Allow ∷ key.Header ∷ key.Journal ∷ key.Log ∷ key.Sessions ∷ key.Threads ∷ key.Unordered ∷ []
 
 abbrev pub spelling : Key → List ℕ
 spelling key.Host = codes "host"
@@ -48,6 +48,7 @@ spelling key.PerCard = codes "per_card"
 spelling key.StandIn = codes "stand_in"
 spelling key.Advices = codes "advices"
 spelling key.Allow = codes "allow"
+spelling key.Header = codes "header"
 spelling key.Journal = codes "journal"
 spelling key.Log = codes "log"
 spelling key.Sessions = codes "sessions"
@@ -75,6 +76,7 @@ wants key.PerCard = want.Number 0 max_limit
 wants key.StandIn = want.Number 0 max_amount
 wants key.Advices = want.Number 0 256
 wants key.Allow = want.Names 32
+wants key.Header = want.Number 0 64
 wants key.Journal = want.Path
 wants key.Log = want.Path
 wants key.Sessions = want.Number 1 16

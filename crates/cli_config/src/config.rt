@@ -114,6 +114,8 @@ pub struct RunTable {
     pub advices: Option<u64>,
     /// The names of the rules of a checked set-up that may be broken, in the file's order.
     pub allow: Option<Sequence<Text>>,
+    /// How many bytes the header before each message of a frame has, 0 to 64.
+    pub header: Option<u64>,
     /// How many sessions there are, 1 to 16.
     pub sessions: Option<u64>,
     /// The path of the journal, not empty.

@@ -52,6 +52,7 @@ pub enum Key {
     StandIn,
     Advices,
     Allow,
+    Header,
     Journal,
     Log,
     Sessions,
@@ -131,6 +132,7 @@ impl Section {
             Section::Run => &[
                 Key::Advices,
                 Key::Allow,
+                Key::Header,
                 Key::Journal,
                 Key::Log,
                 Key::Sessions,
@@ -162,6 +164,7 @@ impl Key {
             Key::PerCard => Want::Number(0, MAX_LIMIT),
             Key::StandIn => Want::Number(0, MAX_AMOUNT),
             Key::Advices => Want::Number(0, 256),
+            Key::Header => Want::Number(0, 64),
             Key::InFlight | Key::Sessions => Want::Number(1, 16),
         }
     }
@@ -215,6 +218,7 @@ impl AsStr for Key {
             Key::StandIn => "stand_in",
             Key::Advices => "advices",
             Key::Allow => "allow",
+            Key::Header => "header",
             Key::Journal => "journal",
             Key::Log => "log",
             Key::Sessions => "sessions",

@@ -152,6 +152,7 @@ fn run_of(alloc: Global, top: &Table) -> Result<RunTable, AllocError>
         Some(table) => Ok(RunTable {
             advices: number_at(table, Key::Advices),
             allow: names_at(alloc, table, Key::Allow)?,
+            header: number_at(table, Key::Header),
             sessions: number_at(table, Key::Sessions),
             journal: text_if(alloc, table, Key::Journal)?,
             log: text_if(alloc, table, Key::Log)?,
@@ -161,6 +162,7 @@ fn run_of(alloc: Global, top: &Table) -> Result<RunTable, AllocError>
         None => Ok(RunTable {
             advices: None,
             allow: None,
+            header: None,
             sessions: None,
             journal: None,
             log: None,

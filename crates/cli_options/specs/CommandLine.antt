@@ -1,6 +1,6 @@
 -- The command line of `cardswitch`: its subcommands as a table, and what words mean by it. clap's
 -- contracts say what a parse by such a table gives.
-use Rattle.std.specs.Prelude.{◌≡◌, ◌^◌, ℕ, Bool, true, false, List, [], ◌∷◌, Option, Some, None, bytes_eq, codes, option_and_then, option_map, nat_lt, not, ◌||◌}
+use Rattle.std.specs.Prelude.{◌≡◌, ◌^◌, ℕ, Bool, true, false, List, [], ◌∷◌, Option, Some, None, bytes_eq, codes, option_and_then, option_map, nat_le, nat_lt, not, ◌||◌}
 use Rattle.std.specs.Prelude.{if◌then◌else◌}
 use Rattle.std.specs.Option.{option_map_or}
 use Rattle.sw_base.specs.Spelling.{number_spelled}
@@ -97,12 +97,12 @@ journal_app = with_rule (with_rule (with_rule (new_app (codes "journal")) (word_
 abbrev pub check_app : App
 check_app = with_rule (with_rule (new_app (codes "check")) (needed_rule (codes "flow"))) (option_rule (codes "config"))
 
--- `run --flow PATH [--config PATH] [--journal PATH] [--log PATH] [--sessions N] [--limit N] [--threads] [--unordered]
--- [--trace[=FORM]] [--stats [N]]`
+-- `run --flow PATH [--config PATH] [--journal PATH] [--log PATH] [--sessions N] [--header N] [--limit N] [--threads]
+-- [--unordered] [--trace[=FORM]] [--stats [N]]`
 abbrev pub run_app : App
-run_app = with_rule (with_rule (with_rule (with_rule (with_rule (with_rule (with_rule
+run_app = with_rule (with_rule (with_rule (with_rule (with_rule (with_rule (with_rule (with_rule
     (with_rule (with_rule (with_rule (new_app (codes "run")) (needed_rule (codes "flow"))) (option_rule (codes "config"))) (option_rule (codes "journal")))
-    (option_rule (codes "log"))) (option_rule (codes "sessions"))) (option_rule (codes "limit"))) (flag_rule (codes "threads"))) (flag_rule (codes "unordered")))
+    (option_rule (codes "log"))) (option_rule (codes "sessions"))) (option_rule (codes "header"))) (option_rule (codes "limit"))) (flag_rule (codes "threads"))) (flag_rule (codes "unordered")))
     (optional_rule (codes "trace") (codes "text"))) (optional_rule (codes "stats") (codes "end"))
 
 -- the program itself: it has a version, and wants a subcommand
@@ -129,6 +129,14 @@ bounded n = if nat_lt n (2 ^ 63) then Some n else None
 abbrev pub number_in : Option Text → Option (Option ℕ)
 number_in None = Some None
 number_in (Some word) = option_map Some (option_and_then bounded (number_spelled word))
+
+-- the number of bytes of a header, which may be left out: at most 64
+abbrev pub within_header : ℕ → Option ℕ
+within_header n = if nat_le n 64 then Some n else None
+
+abbrev pub header_in : Option Text → Option (Option ℕ)
+header_in None = Some None
+header_in (Some word) = option_map Some (option_and_then within_header (number_spelled word))
 
 -- whether a flag was given
 abbrev pub is_set : Option Text → Bool
@@ -175,6 +183,7 @@ pub record AreRunOptions (rows : List Row) (o : RunOptions) : Type 0 where
   pub journal : text_of o.journal ≡ first_of (codes "journal") rows
   pub log : text_of o.log ≡ first_of (codes "log") rows
   pub sessions : number_in (first_of (codes "sessions") rows) ≡ Some o.sessions
+  pub header : header_in (first_of (codes "header") rows) ≡ Some o.header
   pub limit : number_in (first_of (codes "limit") rows) ≡ Some o.limit
   pub threads : o.threads ≡ is_set (first_of (codes "threads") rows)
   pub unordered : o.unordered ≡ is_set (first_of (codes "unordered") rows)

@@ -109,6 +109,8 @@ pub struct RunOptions<'a> {
     pub log: Option<&'a str>,
     /// How many sessions the engine has, if it is given.
     pub sessions: Option<u64>,
+    /// How many bytes the header before each message has, 0 to 64, if it is given.
+    pub header: Option<u64>,
     /// What a card may spend, in minor units of its currency, if it is given.
     pub limit: Option<u64>,
     /// Whether the sessions run as threads.

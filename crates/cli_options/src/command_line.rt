@@ -2,7 +2,7 @@
 ghost use Rattle.std.specs.Prelude.{◌≡◌, IfErr, IfOk, None, OnOk, Some, codes, map};
 ghost use Rattle.clap.specs.Words.{first_of, found_of, rows_of};
 ghost use Rattle.cli_options.specs.CommandLine.{AreOptionsAt, AreOptionsOf, AreRunOptions};
-ghost use Rattle.cli_options.specs.CommandLine.{graph_form, is_set, journal_form, masking_of, number_in};
+ghost use Rattle.cli_options.specs.CommandLine.{graph_form, header_in, is_set, journal_form, masking_of, number_in};
 ghost use Rattle.cli_options.specs.CommandLine.{stats_in, text_of, trace_in};
 ghost use Rattle.cli_options.specs.Refusal.{IsAccepted, IsBadForm, IsBadNumber, IsRefusalAt};
 ghost use Rattle.cli_options.specs.Refusal.{IsRefusalOf, IsRunRefusal};
@@ -22,6 +22,9 @@ use sw_base::read_number;
 
 /// Numbers of options are below this.
 const BOUND: u64 = 1 << 63;
+
+/// The most bytes that a header has.
+const MAX_HEADER: u64 = 64;
 
 /// The options that the words ask for. The first word is the program's name, as in `env::args`.
 ///
@@ -105,6 +108,24 @@ fn number_in(name: &'static str, text: Option<&str>) -> Result<Option<u64>, Opti
     }
 }
 
+/// The bytes of a header that `--header` asks for; `None` if it was not given.
+fn header_in(text: Option<&str>) -> Result<Option<u64>, OptionsError>
+    ensures found { IfOk result (λ n. header_in (text_of text.entry) ≡ Some n) }
+    ensures refused { IfErr result (λ e. IsBadNumber e × (header_in (text_of text.entry) ≡ None)) }
+{
+    let Some(text) = text else {
+        return Ok(None);
+    };
+    match read_number(text) {
+        Some(number) if number <= MAX_HEADER => Ok(Some(number)),
+        _ => Err(OptionsError::BadNumber {
+            name: "header",
+            expected: "a number of 0 to 64 in decimal digits",
+            found: Quoted::of(text.as_bytes()),
+        }),
+    }
+}
+
 /// The lines of numbers that `--stats` asks for: without a value, as with `end`, one at the end.
 fn stats_in(text: Option<&str>) -> Result<StatsLines, OptionsError>
     ensures found { IfOk result (λ lines. stats_in (text_of text.entry) ≡ Some lines) }
@@ -153,6 +174,7 @@ fn run_options<'a>(found: &ArgMatches<'a>) -> Result<RunOptions<'a>, OptionsErro
         journal: text_at(found, "journal"),
         log: text_at(found, "log"),
         sessions: number_in("sessions", text_at(found, "sessions"))?,
+        header: header_in(text_at(found, "header"))?,
         limit: number_in("limit", text_at(found, "limit"))?,
         threads: is_set(text_at(found, "threads")),
         unordered: is_set(text_at(found, "unordered")),

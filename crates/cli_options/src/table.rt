@@ -193,6 +193,12 @@ const COMMANDS: [CommandRow<'static>; 10] = [
                 is_required: false,
             },
             OptionRow {
+                name: "header",
+                given: Given::Value("N"),
+                help: "The bytes of a header before each message of a frame, 0 to 64, which come before its response too [default: 0]",
+                is_required: false,
+            },
+            OptionRow {
                 name: "limit",
                 given: Given::Value("N"),
                 help: "What a card may spend in one run, in minor units [default: 10000]",

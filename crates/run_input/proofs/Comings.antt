@@ -15,7 +15,7 @@ use Rattle.run_input.specs.declared.arrival.Arrival.TheVariants.{Ended, Passed, 
 use Rattle.run_input.specs.declared.arrival.PassedOver.{PassedOver}
 use Rattle.run_input.specs.declared.arrival.ReadError.{ReadError}
 use Rattle.run_input.specs.declared.frames.StreamEnd.{StreamEnd}
-use Rattle.run_input.specs.Requests.{EndsAs, ReadsOn, passed_over, request_of, requests}
+use Rattle.run_input.specs.Requests.{EndsAs, ReadsOn, message_in, passed_over, request_of, requests}
 use Rattle.run_input.specs.Arrivals.{AreMessages, Came, CameSo, EndWith, IfLast, IsArrivalOf, end_after, passed_of, requests_of}
 use Rattle.run_input.proofs.Readings.{nothing_read, one_passed, passed_over_more, requests_more, typed_passed, typed_request, is_none}
 
@@ -51,26 +51,27 @@ messages_then fact (Request x ∷ xs) r m e = messages_then fact xs r m e
 messages_then fact (Passed p ∷ xs) r m e = messages_then fact xs r m e
 messages_then fact (Ended q ∷ xs) r m e = absurd m
 
--- a message with a type is a request
-pub request_arrival : (message : List ℕ) (x : Pairs) → is_some (type_of (read message)) ≡ true → x ≡ request_of message → IsArrivalOf message (Request x)
-request_arrival message x typed is = record {
-  request = ap (λ (p : Pairs). p ∷ []) is ∙ sym (typed_request (read message) message typed);
-  passed = sym (typed_passed (read message) typed);
+-- a frame whose message has a type is a request
+pub request_arrival : (n : ℕ) (frame : List ℕ) (x : Pairs) → is_some (type_of (read (message_in n frame))) ≡ true → x ≡ request_of n frame
+    → IsArrivalOf n frame (Request x)
+request_arrival n frame x typed is = record {
+  request = ap (λ (p : Pairs). p ∷ []) is ∙ sym (typed_request n (read (message_in n frame)) frame typed);
+  passed = sym (typed_passed (read (message_in n frame)) typed);
   is_message = tt;
 }
 
 -- one that cannot be read is passed over
-pub passed_arrival : (message : List ℕ) (e : DecodeError) (p : PassedOver) → read message ≡ Err e → IsArrivalOf message (Passed p)
-passed_arrival message e p is = record {
-  request = sym (is_none (read message) e message is);
-  passed = sym (one_passed (read message) e is);
+pub passed_arrival : (n : ℕ) (frame : List ℕ) (e : DecodeError) (p : PassedOver) → read (message_in n frame) ≡ Err e → IsArrivalOf n frame (Passed p)
+passed_arrival n frame e p is = record {
+  request = sym (is_none n (read (message_in n frame)) e frame is);
+  passed = sym (one_passed (read (message_in n frame)) e is);
   is_message = tt;
 }
 
 -- what came so far
 
-pub so_none : (input : Option (List ℕ)) (s : State) → s ≡ blank → CameSo input input s [] []
-so_none input s same = record {
+pub so_none : (n : ℕ) (input : Option (List ℕ)) (s : State) → s ≡ blank → CameSo n input input s [] []
+so_none n input s same = record {
   frames = [];
   reads = nothing_read input s same;
   requests_are = refl;
@@ -79,12 +80,12 @@ so_none input s same = record {
 }
 
 -- before anything was read of the input
-pub so_begins : (input left : Option (List ℕ)) (s : State) (got : List Arrival) → left ≡ input → s ≡ blank → got ≡ [] → CameSo input left s got []
-so_begins input left s got at same none = rw (at, none) (so_none input s same)
+pub so_begins : (n : ℕ) (input left : Option (List ℕ)) (s : State) (got : List Arrival) → left ≡ input → s ≡ blank → got ≡ [] → CameSo n input left s got []
+so_begins n input left s got at same none = rw (at, none) (so_none n input s same)
 
-pub so_read : (input left then : Option (List ℕ)) (s t : State) (got : List Arrival) (more : List (List ℕ)) → CameSo input left s got []
-    → ReadsOn left s more then t → CameSo input then t got more
-so_read input left then s t got more so reads = record {
+pub so_read : (n : ℕ) (input left then : Option (List ℕ)) (s t : State) (got : List Arrival) (more : List (List ℕ)) → CameSo n input left s got []
+    → ReadsOn left s more then t → CameSo n input then t got more
+so_read n input left then s t got more so reads = record {
   frames = so.frames;
   reads = reads input so.frames (rw append-nil at so.reads);
   requests_are = so.requests_are;
@@ -92,17 +93,17 @@ so_read input left then s t got more so reads = record {
   are_messages = so.are_messages;
 }
 
-pub so_put : (input left : Option (List ℕ)) (s : State) (got : List Arrival) (message : List ℕ) (more : List (List ℕ)) (a : Arrival)
-    → CameSo input left s got (message ∷ more) → IsArrivalOf message a → CameSo input left s (got ++ a ∷ []) more
-so_put input left s got message more a so is = record {
+pub so_put : (n : ℕ) (input left : Option (List ℕ)) (s : State) (got : List Arrival) (message : List ℕ) (more : List (List ℕ)) (a : Arrival)
+    → CameSo n input left s got (message ∷ more) → IsArrivalOf n message a → CameSo n input left s (got ++ a ∷ []) more
+so_put n input left s got message more a so is = record {
   frames = so.frames ++ message ∷ [];
   reads = rw append_assoc so.reads;
   requests_are =
       requests_of_append got (a ∷ []) ∙ (ap (λ (l : List Pairs). l ++ requests_of (a ∷ [])) so.requests_are
-      ∙ (ap (λ (l : List Pairs). requests so.frames ++ l) is.request ∙ sym (requests_more so.frames message)));
+      ∙ (ap (λ (l : List Pairs). requests n so.frames ++ l) is.request ∙ sym (requests_more n so.frames message)));
   passed_are =
       passed_of_append got (a ∷ []) ∙ (ap (λ (k : ℕ). k + passed_of (a ∷ [])) so.passed_are
-      ∙ (ap (λ (k : ℕ). passed_over so.frames + k) is.passed ∙ sym (passed_over_more so.frames message)));
+      ∙ (ap (λ (k : ℕ). passed_over n so.frames + k) is.passed ∙ sym (passed_over_more n so.frames message)));
   are_messages = messages_append got (a ∷ []) so.are_messages is.is_message;
 }
 
@@ -113,17 +114,17 @@ dropped list i m bytes lt at is =
     let front : drop i list ≡ m ∷ drop (i + 1) list = drop_more list i m lt ∙ ap (λ (v : Vec ℕ). v ∷ drop (i + 1) list) (sym at) in
     ap messages front ∙ ap (λ (b : List ℕ). b ∷ messages (drop (i + 1) list)) (sym is)
 
-pub so_next : (input left : Option (List ℕ)) (s : State) (got : List Arrival) (list : List (Vec ℕ)) (i : ℕ) (m : Vec ℕ) (bytes : List ℕ) (a : Arrival)
-    → i < length list → m ≡ get_or list i m → bytes ≡ m.items → CameSo input left s got (messages (drop i list)) → IsArrivalOf bytes a
-    → CameSo input left s (got ++ a ∷ []) (messages (drop (i + 1) list))
-so_next input left s got list i m bytes a lt at is so arrival =
-    so_put input left s got bytes (messages (drop (i + 1) list)) a
-    (subst (λ (l : List (List ℕ)). CameSo input left s got l) (dropped list i m bytes lt at is) so) arrival
+pub so_next : (n : ℕ) (input left : Option (List ℕ)) (s : State) (got : List Arrival) (list : List (Vec ℕ)) (i : ℕ) (m : Vec ℕ) (bytes : List ℕ) (a : Arrival)
+    → i < length list → m ≡ get_or list i m → bytes ≡ m.items → CameSo n input left s got (messages (drop i list)) → IsArrivalOf n bytes a
+    → CameSo n input left s (got ++ a ∷ []) (messages (drop (i + 1) list))
+so_next n input left s got list i m bytes a lt at is so arrival =
+    so_put n input left s got bytes (messages (drop (i + 1) list)) a
+    (subst (λ (l : List (List ℕ)). CameSo n input left s got l) (dropped list i m bytes lt at is) so) arrival
 
 -- what was put
 
-pub came_so : (input left : Option (List ℕ)) (s : State) (got : List Arrival) (more : List (List ℕ)) → CameSo input left s got more → Came input got
-came_so input left s got more so = record {
+pub came_so : (n : ℕ) (input left : Option (List ℕ)) (s : State) (got : List Arrival) (more : List (List ℕ)) → CameSo n input left s got more → Came n input got
+came_so n input left s got more so = record {
   frames = so.frames;
   later = more;
   left = left;
@@ -134,13 +135,13 @@ came_so input left s got more so = record {
   ends = messages_end _ got so.are_messages;
 }
 
-pub came_none : (input : Option (List ℕ)) → Came input []
-came_none input = came_so input input blank [] [] (so_none input blank refl)
+pub came_none : (n : ℕ) (input : Option (List ℕ)) → Came n input []
+came_none n input = came_so n input input blank [] [] (so_none n input blank refl)
 
 -- of an input that was given up
-pub came_failed : (input left : Option (List ℕ)) (s : State) (got : List Arrival) (more : List (List ℕ)) (e : ReadError) → CameSo input left s got more
-    → Came input (got ++ Ended (Err e) ∷ [])
-came_failed input left s got more e so = record {
+pub came_failed : (n : ℕ) (input left : Option (List ℕ)) (s : State) (got : List Arrival) (more : List (List ℕ)) (e : ReadError) → CameSo n input left s got more
+    → Came n input (got ++ Ended (Err e) ∷ [])
+came_failed n input left s got more e so = record {
   frames = so.frames;
   later = more;
   left = left;
@@ -151,15 +152,15 @@ came_failed input left s got more e so = record {
   ends = messages_then _ got (Err e) so.are_messages refl;
 }
 
-pub came_refused : (input left : Option (List ℕ)) (s : State) (got : List Arrival) (more : List (List ℕ)) (r : Result StreamEnd ReadError) → IsErr r
-    → CameSo input left s got more → Came input (got ++ Ended r ∷ [])
-came_refused input left s got more (Err e) is so = came_failed input left s got more e so
-came_refused input left s got more (Ok v) is so = absurd (false≢true is)
+pub came_refused : (n : ℕ) (input left : Option (List ℕ)) (s : State) (got : List Arrival) (more : List (List ℕ)) (r : Result StreamEnd ReadError) → IsErr r
+    → CameSo n input left s got more → Came n input (got ++ Ended r ∷ [])
+came_refused n input left s got more (Err e) is so = came_failed n input left s got more e so
+came_refused n input left s got more (Ok v) is so = absurd (false≢true is)
 
 -- of an input that was read to its end
-pub came_ended : (input left : Option (List ℕ)) (s : State) (got : List Arrival) (end : StreamEnd) → CameSo input left s got [] → EndsAs end s left
-    → Came input (got ++ Ended (Ok end) ∷ [])
-came_ended input left s got end so ends = record {
+pub came_ended : (n : ℕ) (input left : Option (List ℕ)) (s : State) (got : List Arrival) (end : StreamEnd) → CameSo n input left s got [] → EndsAs end s left
+    → Came n input (got ++ Ended (Ok end) ∷ [])
+came_ended n input left s got end so ends = record {
   frames = so.frames;
   later = [];
   left = left;

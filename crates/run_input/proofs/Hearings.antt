@@ -40,18 +40,18 @@ passed_of_ended xs r = passed_of_append xs (Ended r ∷ []) ∙ add-zero (passed
 
 -- an input begins with frames whose first requests came
 
-pub came_so_far : (input : Option (List ℕ)) (got : List Arrival) → LawfulAfter (Came input) got → Heard input got
-came_so_far input got lawful =
+pub came_so_far : (n : ℕ) (input : Option (List ℕ)) (got : List Arrival) → LawfulAfter (Came n input) got → Heard n input got
+came_so_far n input got lawful =
     let held = lawful.0 in
     let came = lawful.1 in
     record {
       frames = came.frames ++ came.later;
       begins = record { left = came.left; state = came.state; reads = came.reads };
-      later = requests_of held ++ requests came.later;
+      later = requests_of held ++ requests n came.later;
       requests_are =
-          requests_append came.frames came.later
-          ∙ (ap (λ (l : List Pairs). l ++ requests came.later) (sym came.requests_are ∙ requests_of_append got held)
-          ∙ append_assoc (requests_of got) (requests_of held) (requests came.later));
+          requests_append n came.frames came.later
+          ∙ (ap (λ (l : List Pairs). l ++ requests n came.later) (sym came.requests_are ∙ requests_of_append got held)
+          ∙ append_assoc (requests_of got) (requests_of held) (requests n came.later));
     }
 
 -- nothing comes after the end
@@ -68,8 +68,8 @@ last_whole fact (Passed p ∷ before) held e h = last_whole fact before held e h
 last_whole fact (Ended (Ok d) ∷ before) held e h = absurd (not_none before (Ended (Ok e)) held h.0)
 last_whole fact (Ended (Err d) ∷ before) held e h = absurd (not_none before (Ended (Ok e)) held h)
 
-heard_all : (input : Option (List ℕ)) (e : StreamEnd) (got held : List Arrival) → Came input (got ++ held) → IsLast (Ok e) got → HeardAll input e got
-heard_all input e got held came last =
+heard_all : (n : ℕ) (input : Option (List ℕ)) (e : StreamEnd) (got held : List Arrival) → Came n input (got ++ held) → IsLast (Ok e) got → HeardAll n input e got
+heard_all n input e got held came last =
     let ends : EndWith (λ d. (came.later ≡ []) × EndsAs d came.state came.left) ((last.0 ++ Ended (Ok e) ∷ []) ++ held) =
     subst (λ (l : List Arrival). EndWith (λ d. (came.later ≡ []) × EndsAs d came.state came.left) (l ++ held)) last.1 came.ends in
     let known = last_whole (λ d. (came.later ≡ []) × EndsAs d came.state came.left) last.0 held e ends in
@@ -89,7 +89,7 @@ heard_all input e got held came last =
 
 -- once the end was got, the input was read to it, and all that came of it was got
 
-pub came_to : (input : Option (List ℕ)) (r : Result StreamEnd ReadError) (got : List Arrival) → LawfulAfter (Came input) got → IsLast r got
-    → HeardTo input r got
-came_to input (Ok e) got lawful last = heard_all input e got lawful.0 lawful.1 last
-came_to input (Err e) got lawful last = tt
+pub came_to : (n : ℕ) (input : Option (List ℕ)) (r : Result StreamEnd ReadError) (got : List Arrival) → LawfulAfter (Came n input) got → IsLast r got
+    → HeardTo n input r got
+came_to n input (Ok e) got lawful last = heard_all n input e got lawful.0 lawful.1 last
+came_to n input (Err e) got lawful last = tt

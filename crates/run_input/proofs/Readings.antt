@@ -16,22 +16,22 @@ use Rattle.iso_msg.specs.Messages.{PlainMessage}
 use Rattle.iso_codec.specs.declared.error.DecodeError.{DecodeError}
 use Rattle.iso_codec.specs.Reads.{read, type_of}
 use Rattle.std.specs.Prelude.{is_some, true, false}
-use Rattle.run_input.specs.Requests.{FramesIn, Reads, ReadsOn, if_passed, if_read, passed_over, readable, request_of, requests}
+use Rattle.run_input.specs.Requests.{FramesIn, Reads, ReadsOn, if_passed, if_read, message_in, passed_over, readable, request_of, requests}
 
 -- requests
 
-pub is_request : (r : Result PlainMessage DecodeError) (m : PlainMessage) (bytes : List ℕ) → r ≡ Ok m
-    → map request_of (if_read r bytes) ≡ request_of bytes ∷ []
-is_request r m bytes is = rw is refl
+pub is_request : (n : ℕ) (r : Result PlainMessage DecodeError) (m : PlainMessage) (frame : List ℕ) → r ≡ Ok m
+    → map (request_of n) (if_read r frame) ≡ request_of n frame ∷ []
+is_request n r m frame is = rw is refl
 
-pub is_none : (r : Result PlainMessage DecodeError) (e : DecodeError) (bytes : List ℕ) → r ≡ Err e → map request_of (if_read r bytes) ≡ []
-is_none r e bytes is = rw is refl
+pub is_none : (n : ℕ) (r : Result PlainMessage DecodeError) (e : DecodeError) (frame : List ℕ) → r ≡ Err e → map (request_of n) (if_read r frame) ≡ []
+is_none n r e frame is = rw is refl
 
--- bytes that have a type are a request, and are not passed over
-pub typed_request : (r : Result PlainMessage DecodeError) (bytes : List ℕ) → is_some (type_of r) ≡ true →
-    map request_of (if_read r bytes) ≡ request_of bytes ∷ []
-typed_request (Ok m) bytes typed = refl
-typed_request (Err e) bytes typed = absurd cc
+-- a frame whose message has a type is a request, and is not passed over
+pub typed_request : (n : ℕ) (r : Result PlainMessage DecodeError) (frame : List ℕ) → is_some (type_of r) ≡ true →
+    map (request_of n) (if_read r frame) ≡ request_of n frame ∷ []
+typed_request n (Ok m) frame typed = refl
+typed_request n (Err e) frame typed = absurd cc
 
 pub typed_passed : (r : Result PlainMessage DecodeError) → is_some (type_of r) ≡ true → if_passed r ≡ 0
 typed_passed (Ok m) typed = refl
@@ -40,33 +40,35 @@ typed_passed (Err e) typed = absurd cc
 pub message_typed : (r : Result PlainMessage DecodeError) (m : PlainMessage) → r ≡ Ok m → is_some (type_of r) ≡ false → ⊥
 message_typed r m is untyped = let some : is_some (type_of r) ≡ true = rw is refl in cc
 
-readable_append : (ms ns : List (List ℕ)) → readable (ms ++ ns) ≡ readable ms ++ readable ns
-readable_append [] ns = refl
-readable_append (m ∷ ms) ns = ap (λ (l : List (List ℕ)). if_read (read m) m ++ l) (readable_append ms ns)
-    ∙ sym (append_assoc (if_read (read m) m) (readable ms) (readable ns))
+readable_append : (n : ℕ) (ms ns : List (List ℕ)) → readable n (ms ++ ns) ≡ readable n ms ++ readable n ns
+readable_append n [] ns = refl
+readable_append n (m ∷ ms) ns = ap (λ (l : List (List ℕ)). if_read (read (message_in n m)) m ++ l) (readable_append n ms ns)
+    ∙ sym (append_assoc (if_read (read (message_in n m)) m) (readable n ms) (readable n ns))
 
-pub requests_append : (ms ns : List (List ℕ)) → requests (ms ++ ns) ≡ requests ms ++ requests ns
-requests_append ms ns = ap (map request_of) (readable_append ms ns) ∙ map-append request_of (readable ms) (readable ns)
+pub requests_append : (n : ℕ) (ms ns : List (List ℕ)) → requests n (ms ++ ns) ≡ requests n ms ++ requests n ns
+requests_append n ms ns = ap (map (request_of n)) (readable_append n ms ns) ∙ map-append (request_of n) (readable n ms) (readable n ns)
 
-requests_of_one : (m : List ℕ) → requests (m ∷ []) ≡ map request_of (if_read (read m) m)
-requests_of_one m = ap (map request_of) (append-nil (if_read (read m) m))
+requests_of_one : (n : ℕ) (m : List ℕ) → requests n (m ∷ []) ≡ map (request_of n) (if_read (read (message_in n m)) m)
+requests_of_one n m = ap (map (request_of n)) (append-nil (if_read (read (message_in n m)) m))
 
-pub requests_more : (ms : List (List ℕ)) (m : List ℕ) → requests (ms ++ m ∷ []) ≡ requests ms ++ map request_of (if_read (read m) m)
-requests_more ms m = requests_append ms (m ∷ []) ∙ ap (λ (l : List Pairs). requests ms ++ l) (requests_of_one m)
+pub requests_more : (n : ℕ) (ms : List (List ℕ)) (m : List ℕ)
+    → requests n (ms ++ m ∷ []) ≡ requests n ms ++ map (request_of n) (if_read (read (message_in n m)) m)
+requests_more n ms m = requests_append n ms (m ∷ []) ∙ ap (λ (l : List Pairs). requests n ms ++ l) (requests_of_one n m)
 
-pub requests_next : (list : List (Vec ℕ)) (i : ℕ) (m : Vec ℕ) (bytes : List ℕ) → i < length list → m ≡ get_or list i m → bytes ≡ m.items →
-    requests (messages (take (i + 1) list)) ≡ requests (messages (take i list)) ++ map request_of (if_read (read bytes) bytes)
-requests_next list i m bytes lt at is =
+pub requests_next : (n : ℕ) (list : List (Vec ℕ)) (i : ℕ) (m : Vec ℕ) (bytes : List ℕ) → i < length list → m ≡ get_or list i m → bytes ≡ m.items →
+    requests n (messages (take (i + 1) list)) ≡ requests n (messages (take i list)) ++ map (request_of n) (if_read (read (message_in n bytes)) bytes)
+requests_next n list i m bytes lt at is =
     let more : take (i + 1) list ≡ take i list ++ m ∷ [] = take_more list i m lt ∙ ap (λ (v : Vec ℕ). take i list ++ v ∷ []) (sym at) in
-    rw (is, more, map-append) (requests_more (messages (take i list)) m.items)
+    rw (is, more, map-append) (requests_more n (messages (take i list)) m.items)
 
 -- the requests of the first messages, and those of the others
-pub requests_front : (list : List (Vec ℕ)) (n : ℕ) → requests (messages list) ≡ requests (messages (take n list)) ++ requests (messages (drop n list))
-requests_front list n =
-    let halves : messages (take n list ++ drop n list) ≡ messages (take n list) ++ messages (drop n list) =
-    map-append (λ (v : Vec ℕ). v.items) (take n list) (drop n list) in
-    ap (λ (l : List (Vec ℕ)). requests (messages l)) (sym (take-append-drop n list))
-    ∙ (ap requests halves ∙ requests_append (messages (take n list)) (messages (drop n list)))
+pub requests_front : (n : ℕ) (list : List (Vec ℕ)) (k : ℕ)
+    → requests n (messages list) ≡ requests n (messages (take k list)) ++ requests n (messages (drop k list))
+requests_front n list k =
+    let halves : messages (take k list ++ drop k list) ≡ messages (take k list) ++ messages (drop k list) =
+    map-append (λ (v : Vec ℕ). v.items) (take k list) (drop k list) in
+    ap (λ (l : List (Vec ℕ)). requests n (messages l)) (sym (take-append-drop k list))
+    ∙ (ap (requests n) halves ∙ requests_append n (messages (take k list)) (messages (drop k list)))
 
 -- messages that are passed over
 
@@ -76,23 +78,26 @@ none_passed r m is = rw is refl
 pub one_passed : (r : Result PlainMessage DecodeError) (e : DecodeError) → r ≡ Err e → if_passed r ≡ 1
 one_passed r e is = rw is refl
 
-pub passed_over_append : (ms ns : List (List ℕ)) → passed_over (ms ++ ns) ≡ passed_over ms + passed_over ns
-passed_over_append [] ns = sym (zero-add (passed_over ns))
-passed_over_append (m ∷ ms) ns = let ih = passed_over_append ms ns in omega (arith, ih)
+pub passed_over_append : (n : ℕ) (ms ns : List (List ℕ)) → passed_over n (ms ++ ns) ≡ passed_over n ms + passed_over n ns
+passed_over_append n [] ns = sym (zero-add (passed_over n ns))
+passed_over_append n (m ∷ ms) ns = let ih = passed_over_append n ms ns in omega (arith, ih)
 
-pub passed_over_more : (ms : List (List ℕ)) (m : List ℕ) → passed_over (ms ++ m ∷ []) ≡ passed_over ms + if_passed (read m)
-passed_over_more ms m =
-    passed_over_append ms (m ∷ []) ∙ ap (λ (k : ℕ). passed_over ms + k) (add-zero (if_passed (read m)))
+pub passed_over_more : (n : ℕ) (ms : List (List ℕ)) (m : List ℕ)
+    → passed_over n (ms ++ m ∷ []) ≡ passed_over n ms + if_passed (read (message_in n m))
+passed_over_more n ms m =
+    passed_over_append n ms (m ∷ []) ∙ ap (λ (k : ℕ). passed_over n ms + k) (add-zero (if_passed (read (message_in n m))))
 
-pub passed_over_next : (list : List (Vec ℕ)) (i : ℕ) (m : Vec ℕ) (bytes : List ℕ) → i < length list → m ≡ get_or list i m → bytes ≡ m.items →
-    passed_over (messages (take (i + 1) list)) ≡ passed_over (messages (take i list)) + if_passed (read bytes)
-passed_over_next list i m bytes lt at is =
+pub passed_over_next : (n : ℕ) (list : List (Vec ℕ)) (i : ℕ) (m : Vec ℕ) (bytes : List ℕ) → i < length list → m ≡ get_or list i m → bytes ≡ m.items →
+    passed_over n (messages (take (i + 1) list)) ≡ passed_over n (messages (take i list)) + if_passed (read (message_in n bytes))
+passed_over_next n list i m bytes lt at is =
     let more : take (i + 1) list ≡ take i list ++ m ∷ [] = take_more list i m lt ∙ ap (λ (v : Vec ℕ). take i list ++ v ∷ []) (sym at) in
     let halves : messages (take i list ++ m ∷ []) ≡ messages (take i list) ++ m.items ∷ [] = map-append (λ (v : Vec ℕ). v.items) (take i list) (m ∷ []) in
-    let whole : passed_over (messages (take (i + 1) list)) ≡ passed_over (messages (take i list)) + passed_over (m.items ∷ []) =
-    ap (λ (l : List (Vec ℕ)). passed_over (messages l)) more ∙ (ap passed_over halves ∙ passed_over_append (messages (take i list)) (m.items ∷ [])) in
-    let one : passed_over (m.items ∷ []) ≡ if_passed (read bytes) = add-zero (if_passed (read m.items)) ∙ ap (λ (l : List ℕ). if_passed (read l)) (sym is) in
-    whole ∙ ap (λ (k : ℕ). passed_over (messages (take i list)) + k) one
+    let whole : passed_over n (messages (take (i + 1) list)) ≡ passed_over n (messages (take i list)) + passed_over n (m.items ∷ []) =
+    ap (λ (l : List (Vec ℕ)). passed_over n (messages l)) more
+    ∙ (ap (passed_over n) halves ∙ passed_over_append n (messages (take i list)) (m.items ∷ [])) in
+    let one : passed_over n (m.items ∷ []) ≡ if_passed (read (message_in n bytes)) =
+    add-zero (if_passed (read (message_in n m.items))) ∙ ap (λ (l : List ℕ). if_passed (read (message_in n l))) (sym is) in
+    whole ∙ ap (λ (k : ℕ). passed_over n (messages (take i list)) + k) one
 
 -- streams
 

@@ -1,9 +1,10 @@
 -- The requests that a run reads.
 --
--- - *Readable, requests* (`Requests.antt`): the messages of a list that can be read; the contexts
---   they are offered in. *Reads*: the bytes taken from an input, whose frames these are, and what
+-- - *Message in* (`Requests.antt`): what a frame has after its header, of a given number of bytes.
+--   *Readable, requests*: the frames of a list whose messages can be read; the contexts they are
+--   offered in. *Reads*: the bytes taken from an input, whose frames these are, and what
 --   a framer keeps. *Ends as*: how a stream ended, by its framer and what is left of the input.
-use Rattle.std.specs.Prelude.{◌≡◌, ◌<◌, ℕ, ◌+◌, ⊤, true, false, List, [], ◌∷◌, ◌++◌, length, map, Option, Result, Ok, Err, codes}
+use Rattle.std.specs.Prelude.{◌≡◌, ◌<◌, ℕ, ◌+◌, ⊤, true, false, List, [], ◌∷◌, ◌++◌, length, map, take, drop, Option, Result, Ok, Err, codes}
 use Rattle.std.specs.Io.KnownBytes.{Consumes, IsAtEnd}
 use Rattle.sw_context.specs.Pairs.{Pairs}
 use Rattle.sw_frame.specs.Stream.{State, Stream}
@@ -13,22 +14,31 @@ use Rattle.iso_codec.specs.Reads.{read}
 use Rattle.run_input.specs.declared.frames.StreamEnd.{StreamEnd}
 use Rattle.run_input.specs.declared.frames.StreamEnd.TheVariants.{Whole, BadLength, Truncated, Unread}
 
--- the messages that can be read; the others are passed over
-abbrev pub if_read : Result PlainMessage DecodeError → List ℕ → List (List ℕ)
-if_read (Ok m) bytes = bytes ∷ []
-if_read (Err e) bytes = []
+-- the message of a frame comes after its header, of so many bytes; a frame that is shorter has none of it
+abbrev pub message_in : ℕ → List ℕ → List ℕ
+message_in n frame = drop n frame
 
-abbrev pub readable : List (List ℕ) → List (List ℕ)
-readable [] = []
-readable (bytes ∷ more) = if_read (read bytes) bytes ++ readable more
+-- this frame, if its message can be read; the others are passed over
+abbrev pub if_read : Result PlainMessage DecodeError → List ℕ → List (List ℕ)
+if_read (Ok m) frame = frame ∷ []
+if_read (Err e) frame = []
+
+abbrev pub readable : ℕ → List (List ℕ) → List (List ℕ)
+readable n [] = []
+readable n (frame ∷ more) = if_read (read (message_in n frame)) frame ++ readable n more
+
+-- the entry of a header in a context; a header without bytes has none
+abbrev pub header_entry : List ℕ → Pairs
+header_entry [] = []
+header_entry (byte ∷ more) = (codes "header", byte ∷ more) ∷ []
 
 -- the context that a request is offered in
-abbrev pub request_of : List ℕ → Pairs
-request_of bytes = (codes "request", bytes) ∷ []
+abbrev pub request_of : ℕ → List ℕ → Pairs
+request_of n frame = header_entry (take n frame) ++ (codes "request", message_in n frame) ∷ []
 
 -- the contexts in which the messages that can be read are offered
-abbrev pub requests : List (List ℕ) → List Pairs
-requests frames = map request_of (readable frames)
+abbrev pub requests : ℕ → List (List ℕ) → List Pairs
+requests n frames = map (request_of n) (readable n frames)
 
 -- how the stream ended: whole frames were read to the end of the input; or a length is not four digits; or the input ends within a frame
 abbrev pub EndsAs : StreamEnd → State → Option (List ℕ) → Type 0
@@ -71,7 +81,7 @@ abbrev pub if_passed : Result PlainMessage DecodeError → ℕ
 if_passed (Ok m) = 0
 if_passed (Err e) = 1
 
--- how many of these messages are passed over
-abbrev pub passed_over : List (List ℕ) → ℕ
-passed_over [] = 0
-passed_over (bytes ∷ more) = if_passed (read bytes) + passed_over more
+-- how many of these frames are passed over
+abbrev pub passed_over : ℕ → List (List ℕ) → ℕ
+passed_over n [] = 0
+passed_over n (frame ∷ more) = if_passed (read (message_in n frame)) + passed_over n more

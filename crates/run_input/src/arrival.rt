@@ -1,8 +1,9 @@
 //! What comes of an input.
 
-ghost use Rattle.std.specs.Prelude.{◌≡◌, ◌<◌, ◌+◌, ◌∷◌, [], IfOk, option_to_list, vec_capacity, vec_len};
+ghost use Rattle.std.specs.Prelude.{◌≡◌, ◌<◌, ◌+◌, ◌++◌, ◌∷◌, [], IfOk, option_to_list, vec_capacity, vec_len};
+ghost use Rattle.std.specs.Prelude.{codes, take};
 ghost use Rattle.run_input.specs.Arrivals.{IsArrivalOf, end_after, passed_of, requests_of};
-ghost use Rattle.run_input.specs.Requests.{request_of};
+ghost use Rattle.run_input.specs.Requests.{header_entry, message_in};
 
 use crate::frames::StreamEnd;
 use iso_codec::{DecodeError, decode, type_in};
@@ -76,25 +77,61 @@ impl Arrival {
     }
 }
 
-// The context that the request of this number is offered in.
-fn context_of(alloc: Global, number: u64, message: &[u8]) -> Result<Context, ReadError>
-    ensures { IfOk result (λ request. request ≡ request_of message.now) }
+// The context of a request: its header, if that has bytes, and its message.
+fn request_with(alloc: Global, header: &[u8], message: &[u8]) -> Result<Context, ContextError>
+    ensures { IfOk result (λ request.
+        request ≡ header_entry header.now ++ (codes "request", message.now) ∷ []) }
 {
     let mut request = Context::new(alloc);
-    match request.put("request", message) {
-        Ok(()) => Ok(request),
+    if !header.is_empty() {
+        request.put("header", header)?;
+    }
+    request.put("request", message)?;
+    Ok(request)
+}
+
+// The context that the request of this number is offered in.
+fn context_of(
+    alloc: Global,
+    number: u64,
+    header: &[u8],
+    message: &[u8],
+) -> Result<Context, ReadError>
+    ensures { IfOk result (λ request.
+        request ≡ header_entry header.now ++ (codes "request", message.now) ∷ []) }
+{
+    match request_with(alloc, header, message) {
+        Ok(request) => Ok(request),
         Err(ContextError::OutOfMemory) => Err(ReadError::OutOfMemory),
         Err(error) => Err(ReadError::Request(number, error)),
     }
 }
 
-/// What the message of this number is: a request, or passed over.
-pub fn arrival_of(alloc: Global, number: u64, message: &[u8]) -> Result<Arrival, ReadError>
-    ensures { IfOk result (λ arrival. IsArrivalOf message.now arrival) }
+// The header of a frame, which has this many bytes, and the message after it. A frame that is shorter has no message.
+fn split_frame(frame: &[u8], header: usize) -> (&[u8], &[u8])
+    ensures header { result.0.now ≡ take header frame.now }
+    ensures message { result.1.now ≡ message_in header frame.now }
 {
+    if header < frame.len() {
+        frame.split_at(header)
+    } else {
+        frame.split_at(frame.len())
+    }
+}
+
+/// What the frame of this number is: a request, or passed over. Its message comes after a header of `header` bytes.
+pub fn arrival_of(
+    alloc: Global,
+    number: u64,
+    header: usize,
+    frame: &[u8],
+) -> Result<Arrival, ReadError>
+    ensures { IfOk result (λ arrival. IsArrivalOf header frame.now arrival) }
+{
+    let (header, message) = split_frame(frame, header);
     // A message that can be read is only checked here; it is decoded where its fields are needed.
     if type_in(message).is_some() {
-        return Ok(Arrival::Request(context_of(alloc, number, message)?));
+        return Ok(Arrival::Request(context_of(alloc, number, header, message)?));
     }
     match decode(alloc, message) {
         Ok(_) => unreachable!(),

@@ -39,22 +39,25 @@ impl<'a, B: Input, T> Model for Arrivals<'a, B, T> {
     ghost view = { λ a. a.getter.passed };
 
     ghost invariant = { λ a. (a.getter.intake ≡ (arc_value a.queue).intake.id)
-        × LawfulAfter (Came B.input) a.getter.passed };
+        × LawfulAfter (Came B.header B.input) a.getter.passed };
 }
 
 impl<'a, B: Input, T: Wait> Arrivals<'a, B, T> {
-    /// Starts the thread that reads the input, which nobody joins: it ends with the input, or with the program. What is
-    /// under way is told to the watch. It is refused if no memory or no thread can be had.
+    /// Starts the thread that reads the input, which nobody joins: it ends with the input, or with the program. Before each
+    /// message of a frame is a header of `header` bytes. What is under way is told to the watch. It is refused if no memory
+    /// or no thread can be had.
     pub fn open<R: Read + Drop + Send + 'static>(
         rt: &'a T,
         alloc: Global,
         input: R,
+        header: usize,
         watch: &Arc<Watch>,
     ) -> Result<Arrivals<'a, B, T>, AllocError>
     where
         T: Threads + Clone + Drop + Send + 'static,
         B: Send + Sync + 'static,
-        requires { R.remaining input ≡ B.input }
+        requires input { R.remaining input ≡ B.input }
+        requires header { header ≡ B.header }
         ensures { IfOk result (λ arrivals. arrivals ≡ []) }
     {
         let Ok(made) = Intake::new(alloc, CAPACITY) else {
@@ -78,8 +81,9 @@ impl<'a, B: Input, T: Wait> Arrivals<'a, B, T> {
                 requires own { putter.intake ≡ (arc_value shared).intake.id }
                 requires none { putter.passed ≡ [] }
                 requires input { R.remaining input ≡ B.input }
+                requires header { header ≡ B.header }
             {
-                read_all(&reads, alloc, &shared, putter, input);
+                read_all(&reads, alloc, &shared, putter, header, input);
             },
         )?;
         Ok(Arrivals {
@@ -125,7 +129,7 @@ impl<'a, B: Input, T> Arrivals<'a, B, T> {
 
     /// What was got came of the input.
     pub fn has_come(&self)
-        ensures { LawfulAfter (Came B.input) self.now }
+        ensures { LawfulAfter (Came B.header B.input) self.now }
     {
         let _queue = &self.queue;
     }

@@ -17,17 +17,21 @@ pub(crate) const CAPACITY: usize = 256;
 /// How long the thread that reads waits at most before it looks for room again, in milliseconds.
 const LOOKING: u64 = 100;
 
-/// An input, as contracts name it: what it has when it is begun.
+/// An input, as contracts name it: what it has when it is begun, and how many bytes the header of a frame has.
 pub trait Input {
     ghost use Rattle.std.specs.Prelude.{ℕ, List, Option};
 
     ghost input: { Option (List ℕ) };
+
+    ghost header: { ℕ };
 }
 
 impl Input for Brand {
     ghost use Rattle.std.specs.Prelude.{None};
 
     ghost input = { None };
+
+    ghost header = { 0 };
 }
 
 /// The law of the queue: what is put came of the input.
@@ -38,7 +42,7 @@ pub(crate) struct CameOf<B> {
 impl<B: Input> Law<Arrival> for CameOf<B> {
     ghost use Rattle.run_input.specs.Arrivals.{Came};
 
-    ghost may = { Came B.input };
+    ghost may = { Came B.header B.input };
 }
 
 /// The queue, and what both of its threads look at.
@@ -71,7 +75,7 @@ impl<B: Input> Queue<B> {
     /// Puts an arrival as soon as there is room, and rings.
     pub(crate) fn put<R: Wait>(&self, rt: &R, putter: &mut Putter<Arrival>, item: Arrival)
         requires own { putter.old.intake ≡ self.now.intake.id }
-        requires may { Came B.input (putter.old.passed ++ item ∷ []) }
+        requires may { Came B.header B.input (putter.old.passed ++ item ∷ []) }
         ensures own { putter.new.intake ≡ self.now.intake.id }
         ensures put { putter.new.passed ≡ putter.old.passed ++ item ∷ [] }
     {

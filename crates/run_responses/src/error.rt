@@ -10,7 +10,7 @@ use sw_participant::NoMemory;
 /// Why a response is not given, or only a beginning of it.
 #[derive(Drop)]
 pub enum ResponseError {
-    /// The response of this transaction is longer than the 9,999 bytes that a frame may have.
+    /// The response of this transaction, with its header, is longer than the 9,999 bytes that a frame may have.
     Long(u64),
     /// The output could not be written.
     Io(IoError),

@@ -1,7 +1,6 @@
 //! The responses of the transactions that ended, as frames.
 
-ghost use Rattle.std.specs.Prelude.{◌≡◌, ◌++◌, ℕ, List, [], IfOk};
-ghost use Rattle.sw_context.specs.Pairs.{find};
+ghost use Rattle.std.specs.Prelude.{◌≡◌, ◌++◌, ℕ, List, [], IfOk, option_map};
 ghost use Rattle.sw_frame.specs.Stream.{AreFramed};
 ghost use Rattle.run_responses.specs.Responses.{above, response, responses, with_response};
 
@@ -11,6 +10,22 @@ use std::collections::BTreeMap;
 use std::ops::Bound;
 use sw_context::Context;
 use sw_frame::{FrameError, frame};
+
+// What the frame of a response has, if a context has one: the header of its request, and the response.
+fn content_of(alloc: Global, context: &Context) -> Result<Option<Vec<u8>>, ResponseError>
+    ensures { IfOk result (λ content.
+        option_map (λ v. v.items) content ≡ response context.now) }
+{
+    let Some(response) = context.get("response") else {
+        return Ok(None);
+    };
+    let mut content = Vec::new(alloc);
+    if let Some(header) = context.get("header") {
+        content.extend_from_slice(header)?;
+    }
+    content.extend_from_slice(response)?;
+    Ok(Some(content))
+}
 
 /// Adds the frame of the response that a context has, if it has one.
 pub(crate) fn add_frame(
@@ -23,10 +38,10 @@ pub(crate) fn add_frame(
         × AreFramed framed (with_response (response context.now) [])
         × (text.new.items ≡ text.old.items ++ framed)) }
 {
-    let Some(response) = context.get("response") else {
+    let Some(content) = content_of(alloc, context)? else {
         return Ok(());
     };
-    match frame(alloc, response) {
+    match frame(alloc, &content) {
         Ok(bytes) => Ok(text.extend_from_slice(&bytes)?),
         Err(FrameError::OutOfMemory) => Err(ResponseError::OutOfMemory),
         Err(_) => Err(ResponseError::Long(id)),
@@ -34,7 +49,7 @@ pub(crate) fn add_frame(
 }
 
 /// The frames of the responses of the transactions with ids above this one, ids rising. `Long` if a response
-/// is longer than the 9,999 bytes that a frame may have.
+/// with its header is longer than the 9,999 bytes that a frame may have.
 pub fn text_above(
     alloc: Global,
     ended: &BTreeMap<u64, Context>,

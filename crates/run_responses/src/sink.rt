@@ -154,6 +154,21 @@ impl<'a, O: Write, T> Responses<'a, O, T> {
         self.release(below);
     }
 
+    // Gives the response of a transaction before which none has to leave, and then those with ids below this one, or all.
+    fn give_next(&mut self, id: u64, context: &Context, below: Option<u64>)
+        requires open { (giving_of O.contents self.old).failed ≡ false }
+        requires order { self.old.kept.order ≡ ResponseOrder.ById }
+        ensures same { self.new.out.ghost_name ≡ self.old.out.ghost_name }
+        ensures gives { Gives (giving_of O.contents self.old) ((id, context.now) ∷ [])
+            (giving_of O.contents self.new) }
+    {
+        self.give(id, context);
+        if self.kept.fault.is_some() {
+            return;
+        }
+        self.release(below);
+    }
+
     /// Gives all responses that are still held back, ids rising. After a fault it does nothing.
     pub fn flush(&mut self)
         ensures same { self.new.out.ghost_name ≡ self.old.out.ghost_name }
@@ -225,7 +240,11 @@ impl<'a, O: Write, T: Wait> Sink for Responses<'a, O, T> {
             ResponseOrder::ByEnd => self.give(id, context),
             ResponseOrder::ById => {
                 let below = self.kept.open.lock(self.rt).end(id);
-                self.hold(id, context, below);
+                if is_next(&self.kept.held, id, below) {
+                    self.give_next(id, context, below);
+                } else {
+                    self.hold(id, context, below);
+                }
             }
         }
         if self.kept.fault.is_some() {
@@ -250,6 +269,14 @@ fn has_below(held: &BTreeMap<u64, Context>, below: Option<u64>) -> bool {
         (Some((id, _)), Some(below)) => *id < below,
         (Some(_), None) => true,
         (None, _) => false,
+    }
+}
+
+// Whether no response has to leave before that of this transaction: no earlier one is held back or under way.
+fn is_next(held: &BTreeMap<u64, Context>, id: u64, below: Option<u64>) -> bool {
+    match below {
+        Some(below) if below <= id => false,
+        _ => !has_below(held, Some(id)),
     }
 }
 

@@ -31,7 +31,7 @@ no_config = record {
   hosts = None;
   routes = None;
   limits = record { per_card = None; stand_in = None };
-  run = record { advices = None; allow = None; sessions = None; journal = None; log = None; threads = None; unordered = None };
+  run = record { advices = None; allow = None; header = None; sessions = None; journal = None; log = None; threads = None; unordered = None };
 }
 
 -- what a card may spend, 10,000 minor units where nothing states it
@@ -50,6 +50,10 @@ stand_in_of c = unwrap_or c.limits.stand_in 1000
 -- one session where nothing states how many
 abbrev pub sessions_of : RunOptions → Config → ℕ
 sessions_of o c = unwrap_or (option_or o.sessions c.run.sessions) 1
+
+-- how many bytes a header has, none where nothing states it
+abbrev pub header_of : RunOptions → Config → ℕ
+header_of o c = unwrap_or (option_or o.header c.run.header) 0
 
 -- how many stored advices are sent between two reads, none where nothing states it
 abbrev pub advices_of : Config → ℕ
@@ -110,6 +114,7 @@ pub record PlainSetup : Type 0 where
   pub queried : LinkStates
   pub advised : LinkStates
   pub advices : ℕ
+  pub header : ℕ
   pub sessions : ℕ
   pub threads : Option ResponseOrder
   -- whether it is noted how long an issuer took
@@ -123,14 +128,15 @@ plain_setup s = record {
   queried = map named_state s.queried.items;
   advised = link_states shown_link s.advised.items;
   advices = s.advices;
+  header = s.header;
   sessions = s.sessions;
   threads = s.threads;
   timed = is_some s.timed;
 }
 
 -- By options and a configuration: a new book, which may have its limit and has nothing in it; the routes; for each host a link
--- that authorizations go over, and one that stored advices go over; how many advices are sent between two reads; and how many
--- sessions there are, as threads or not.
+-- that authorizations go over, and one that stored advices go over; how many advices are sent between two reads; how many
+-- bytes a header has; and how many sessions there are, as threads or not.
 abbrev pub setup_of : RunOptions → Config → PlainSetup
 setup_of o c = record {
   book = record { limit = limit_of o c; items = [] };
@@ -139,6 +145,7 @@ setup_of o c = record {
   queried = queries_of c;
   advised = links_of c;
   advices = advices_of c;
+  header = header_of o c;
   sessions = sessions_of o c;
   threads = threads_of o c;
   timed = is_some (log_path_of o c);
@@ -161,6 +168,7 @@ recovery_of c = record {
   queried = unasked_of c;
   advised = [];
   advices = 0;
+  header = 0;
   sessions = 1;
   threads = None;
   timed = false;

@@ -26,6 +26,7 @@ fn no_config() -> Config
         run: RunTable {
             advices: None,
             allow: None,
+            header: None,
             sessions: None,
             journal: None,
             log: None,

@@ -3,7 +3,8 @@
 ghost use Rattle.std.specs.Prelude.{◌≡◌, ◌<◌, ◌≤◌, [], Err, IfErr, IfOk, OnOk, is_some};
 ghost use Rattle.run_switch.specs.Links.{switch_routes};
 ghost use Rattle.sw_book.specs.Most.{max_limit};
-ghost use Rattle.run_setup.specs.Plans.{IsLimitFault, IsSetUp, advices_of, journal_of, log_path_of, limit_of};
+ghost use Rattle.run_setup.specs.Plans.{IsLimitFault, IsSetUp, advices_of, header_of, journal_of};
+ghost use Rattle.run_setup.specs.Plans.{log_path_of, limit_of};
 ghost use Rattle.run_setup.specs.Plans.{order_of, plain_setup, recovery_of, sessions_of, stand_in_of};
 ghost use Rattle.run_setup.specs.Plans.{threads_of};
 ghost use Rattle.run_setup.specs.declared.error.SetupError.TheVariants.{BadLimit, OutOfMemory};
@@ -88,6 +89,12 @@ fn sessions(options: &RunOptions<'_>, config: &Config) -> u64
     options.sessions.or(config.run.sessions).unwrap_or(1)
 }
 
+fn header(options: &RunOptions<'_>, config: &Config) -> u64
+    ensures { result ≡ header_of options.now config.now }
+{
+    options.header.or(config.run.header).unwrap_or(0)
+}
+
 fn advices(config: &Config) -> u64
     ensures { result ≡ advices_of config.now }
 {
@@ -160,6 +167,7 @@ pub fn setup<T: Threads + Wait + Clock + Clone + Drop + Send + 'static>(
         queried,
         advised,
         advices: advices(config) as usize,
+        header: header(options, config) as usize,
         sessions: sessions(options, config) as usize,
         threads: threads(options, config),
         timed: clock(rt, options, config),
@@ -194,6 +202,7 @@ pub fn recovery(alloc: Global, config: &Config) -> Result<Setup<SwitchLink>, Set
         queried: unasked(alloc, config)?,
         advised: Vec::new(alloc),
         advices: 0,
+        header: 0,
         sessions: 1,
         threads: None,
         timed: None,

@@ -117,14 +117,14 @@ advanced_sends step threads xs i x y t q k l m a b = record {
 }
 
 -- the messages of further frames
-pub advanced_frames : (step : AdviceStep) (threads : Option ResponseOrder) (frames more : List (List ℕ)) (x y : Stage) (q : Point) (c : Option (List ℕ))
-    (k l m : Log) → AdvancesFor step threads frames x k y l → ReportsWith threads (requests more) (passed_over more) y.point y.out l q c m →
-    AdvancesFor step threads (frames ++ more) x k (stage y.advisor q c) m
-advanced_frames step threads frames more x y q c k l m a r =
-    let all = advanced_then step threads (requests frames) (requests more) (passed_over frames) (passed_over more) x y q c k l m a r in
-    subst (λ (n : ℕ). AdvancesWith step threads (requests (frames ++ more)) n x k (stage y.advisor q c) m) (sym (passed_over_append frames more))
-    (subst (λ (xs : List Pairs). AdvancesWith step threads xs (passed_over frames + passed_over more) x k (stage y.advisor q c) m)
-    (sym (requests_append frames more)) all)
+pub advanced_frames : (header : ℕ) (step : AdviceStep) (threads : Option ResponseOrder) (frames more : List (List ℕ)) (x y : Stage) (q : Point) (c : Option (List ℕ))
+    (k l m : Log) → AdvancesFor header step threads frames x k y l → ReportsWith threads (requests header more) (passed_over header more) y.point y.out l q c m →
+    AdvancesFor header step threads (frames ++ more) x k (stage y.advisor q c) m
+advanced_frames header step threads frames more x y q c k l m a r =
+    let all = advanced_then step threads (requests header frames) (requests header more) (passed_over header frames) (passed_over header more) x y q c k l m a r in
+    subst (λ (n : ℕ). AdvancesWith step threads (requests header (frames ++ more)) n x k (stage y.advisor q c) m) (sym (passed_over_append header frames more))
+    (subst (λ (xs : List Pairs). AdvancesWith step threads xs (passed_over header frames + passed_over header more) x k (stage y.advisor q c) m)
+    (sym (requests_append header frames more)) all)
 
 -- what came in a further leg
 pub advanced_leg : (step : AdviceStep) (order : ResponseOrder) (got then : List Arrival) (x y : Stage) (q : Point) (c : Option (List ℕ)) (k l m : Log)
@@ -135,16 +135,16 @@ advanced_leg step order got then x y q c k l m a s =
     (subst (λ (xs : List Pairs). AdvancesWith step (Some order) xs (passed_of got + s.passed) x k (stage y.advisor q c) m) (sym s.requests_are) all)
 
 -- all that came of an input, which was read to its end
-pub advanced_all : (step : AdviceStep) (order : ResponseOrder) (input : Option (List ℕ)) (end : StreamEnd) (got : List Arrival) (x y : Stage) (k l : Log)
-    → (h : HeardAll input end got) → AdvancesBy step order got x k y l → AdvancesFor step (Some order) h.frames x k y l
-advanced_all step order input end got x y k l h a =
-    subst (λ (n : ℕ). AdvancesWith step (Some order) (requests h.frames) n x k y l) (sym h.passed_are)
+pub advanced_all : (header : ℕ) (step : AdviceStep) (order : ResponseOrder) (input : Option (List ℕ)) (end : StreamEnd) (got : List Arrival) (x y : Stage) (k l : Log)
+    → (h : HeardAll header input end got) → AdvancesBy step order got x k y l → AdvancesFor header step (Some order) h.frames x k y l
+advanced_all header step order input end got x y k l h a =
+    subst (λ (n : ℕ). AdvancesWith step (Some order) (requests header h.frames) n x k y l) (sym h.passed_are)
     (subst (λ (xs : List Pairs). AdvancesWith step (Some order) xs (passed_of got) x k y l) (sym h.requests_are) a)
 
 -- up to an error
 
-pub stops_fresh : (step : AdviceStep) (threads : Option ResponseOrder) (input : Option (List ℕ)) (s : State) (x : Stage) → s ≡ blank → StopsWithin step threads input x x.out
-stops_fresh step threads input s x fresh = record {
+pub stops_fresh : (header : ℕ) (step : AdviceStep) (threads : Option ResponseOrder) (input : Option (List ℕ)) (s : State) (x : Stage) → s ≡ blank → StopsWithin header step threads input x x.out
+stops_fresh header step threads input s x fresh = record {
   frames = [];
   begins = record { left = input; state = s; reads = nothing_read input s fresh };
   halts = record {
@@ -159,18 +159,18 @@ stops_fresh step threads input s x fresh = record {
   };
 }
 
-pub stops_on : (step : AdviceStep) (threads : Option ResponseOrder) (input left : Option (List ℕ)) (frames : List (List ℕ)) (s : State) (x y : Stage) (k l : Log)
-    (c : Option (List ℕ)) → Reads input left frames s → AdvancesFor step threads frames x k y l → HaltsOn threads left s y.point y.out c →
-    StopsWithin step threads input x c
-stops_on step threads input left frames s x y k l c reads a on =
+pub stops_on : (header : ℕ) (step : AdviceStep) (threads : Option ResponseOrder) (input left : Option (List ℕ)) (frames : List (List ℕ)) (s : State) (x y : Stage) (k l : Log)
+    (c : Option (List ℕ)) → Reads input left frames s → AdvancesFor header step threads frames x k y l → HaltsOn header threads left s y.point y.out c →
+    StopsWithin header step threads input x c
+stops_on header step threads input left frames s x y k l c reads a on =
     let (more, begins, halts) = on input frames reads in
     record {
       frames = frames ++ more;
       begins = begins;
       halts = record {
-        first = requests frames;
-        later = requests more;
-        order = requests_append frames more;
+        first = requests header frames;
+        later = requests header more;
+        order = requests_append header frames more;
         rounds = a.rounds;
         answers = a.answers;
         reached = y;
@@ -180,9 +180,9 @@ stops_on step threads input left frames s x y k l c reads a on =
     }
 
 -- of what came of an input, and of what may come next
-pub stops_by : (step : AdviceStep) (order : ResponseOrder) (input : Option (List ℕ)) (got : List Arrival) (x y : Stage) (k l : Log) (c : Option (List ℕ))
-    → AdvancesBy step order got x k y l → HaltsHeard order input got y.point y.out c → StopsWithin step (Some order) input x c
-stops_by step order input got x y k l c a h = record {
+pub stops_by : (header : ℕ) (step : AdviceStep) (order : ResponseOrder) (input : Option (List ℕ)) (got : List Arrival) (x y : Stage) (k l : Log) (c : Option (List ℕ))
+    → AdvancesBy step order got x k y l → HaltsHeard header order input got y.point y.out c → StopsWithin header step (Some order) input x c
+stops_by header step order input got x y k l c a h = record {
   frames = h.frames;
   begins = h.begins;
   halts = record {
@@ -198,9 +198,9 @@ stops_by step order input got x y k l c a h = record {
 }
 
 -- nothing came after it
-pub stops_heard : (step : AdviceStep) (order : ResponseOrder) (input : Option (List ℕ)) (got : List Arrival) (x y : Stage) (k l : Log)
-    → AdvancesBy step order got x k y l → Heard input got → StopsWithin step (Some order) input x y.out
-stops_heard step order input got x y k l a h = stops_by step order input got x y k l y.out a (record {
+pub stops_heard : (header : ℕ) (step : AdviceStep) (order : ResponseOrder) (input : Option (List ℕ)) (got : List Arrival) (x y : Stage) (k l : Log)
+    → AdvancesBy step order got x k y l → Heard header input got → StopsWithin header step (Some order) input x y.out
+stops_heard header step order input got x y k l a h = stops_by header step order input got x y k l y.out a (record {
   frames = h.frames;
   begins = h.begins;
   later = h.later;

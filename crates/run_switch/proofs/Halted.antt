@@ -20,10 +20,10 @@ use Rattle.run_switch.specs.Stopped.{GoesOnSome, IsStopped, ServesSome, Serving}
 use Rattle.run_switch.proofs.Stops.{drains_all}
 
 -- all was served, and what comes after it failed
-pub served_all : (threads : Option ResponseOrder) (step : AdviceStep) (p : Point) (advisor : PlainAdvisor) (input a b : Option (List ℕ)) (end : StreamEnd)
-    (frames : List (List ℕ)) (rounds : List Round) → ReadTo end input frames → RoundsFor threads (requests frames) rounds →
-    ServesAll step rounds p advisor a b → Serving step threads input p advisor a b
-served_all threads step p advisor input a b end frames rounds read are serves = record {
+pub served_all : (header : ℕ) (threads : Option ResponseOrder) (step : AdviceStep) (p : Point) (advisor : PlainAdvisor) (input a b : Option (List ℕ)) (end : StreamEnd)
+    (frames : List (List ℕ)) (rounds : List Round) → ReadTo end input frames → RoundsFor threads (requests header frames) rounds →
+    ServesAll step rounds p advisor a b → Serving header step threads input p advisor a b
+served_all header threads step p advisor input a b end frames rounds read are serves = record {
   begun = serves.begun;
   cut = serves.cut;
   cuts = serves.cuts;
@@ -42,26 +42,26 @@ served_all threads step p advisor input a b end frames rounds read are serves = 
 
 -- without an input, and with one
 
-pub goes_none : {R : Type 0} (step : AdviceStep) (threads : Option ResponseOrder) (remaining : R → Option (List ℕ)) (o : Option R) (p : Point) (advisor : PlainAdvisor)
+pub goes_none : {R : Type 0} (header : ℕ) (step : AdviceStep) (threads : Option ResponseOrder) (remaining : R → Option (List ℕ)) (o : Option R) (p : Point) (advisor : PlainAdvisor)
     (a b : Option (List ℕ)) → o ≡ None → AppendsBeginning a b (written_as Text (lines_in (world_at p)))
-    → GoesOnSome step threads (option_map remaining o) p advisor a b
-goes_none {R} step threads remaining o p advisor a b is h =
-    subst (λ (z : Option R). GoesOnSome step threads (option_map remaining z) p advisor a b) (sym is) h
+    → GoesOnSome header step threads (option_map remaining o) p advisor a b
+goes_none {R} header step threads remaining o p advisor a b is h =
+    subst (λ (z : Option R). GoesOnSome header step threads (option_map remaining z) p advisor a b) (sym is) h
 
-pub goes_some : {R : Type 0} (step : AdviceStep) (threads : Option ResponseOrder) (remaining : R → Option (List ℕ)) (o : Option R) (x : R) (p : Point)
-    (advisor : PlainAdvisor) (a b : Option (List ℕ)) → o ≡ Some x → ServesSome step threads (remaining x) p advisor a b
-    → GoesOnSome step threads (option_map remaining o) p advisor a b
-goes_some {R} step threads remaining o x p advisor a b is h =
-    subst (λ (z : Option R). GoesOnSome step threads (option_map remaining z) p advisor a b) (sym is) h
+pub goes_some : {R : Type 0} (header : ℕ) (step : AdviceStep) (threads : Option ResponseOrder) (remaining : R → Option (List ℕ)) (o : Option R) (x : R) (p : Point)
+    (advisor : PlainAdvisor) (a b : Option (List ℕ)) → o ≡ Some x → ServesSome header step threads (remaining x) p advisor a b
+    → GoesOnSome header step threads (option_map remaining o) p advisor a b
+goes_some {R} header step threads remaining o x p advisor a b is h =
+    subst (λ (z : Option R). GoesOnSome header step threads (option_map remaining z) p advisor a b) (sym is) h
 
 -- the run of a plant that has recovered
-pub stopped : (f : Flow) (n : ℕ) (j : Seen) (sender : PlainSender) (most : ℕ) (r : Point) (advisor : PlainAdvisor) (unfinished : Recovered)
+pub stopped : (header : ℕ) (f : Flow) (n : ℕ) (j : Seen) (sender : PlainSender) (most : ℕ) (r : Point) (advisor : PlainAdvisor) (unfinished : Recovered)
     (step : AdviceStep) (threads : Option ResponseOrder) (input : Option (Option (List ℕ))) (a b : Option (List ℕ)) → HasBegun f n j sender most r advisor unfinished
-    → GoesOnSome step threads input r advisor a b → IsStopped step sender most threads input f n j a b
-stopped f n j sender most r advisor unfinished step threads None a b h written = inr (record { recovered = r; begins = h.begins; written = written })
-stopped f n j sender most r advisor unfinished step threads (Some input) a b h (inl keeps) = inl keeps
-stopped f n j sender most r advisor unfinished step threads (Some input) a b h (inr serves) = inr (record {
+    → GoesOnSome header step threads input r advisor a b → IsStopped header step sender most threads input f n j a b
+stopped header f n j sender most r advisor unfinished step threads None a b h written = inr (record { recovered = r; begins = h.begins; written = written })
+stopped header f n j sender most r advisor unfinished step threads (Some input) a b h (inl keeps) = inl keeps
+stopped header f n j sender most r advisor unfinished step threads (Some input) a b h (inr serves) = inr (record {
   recovered = r;
   begins = h.begins;
-  serves = subst (λ (s : PlainAdvisor). Serving step threads input r s a b) h.advisor_is serves;
+  serves = subst (λ (s : PlainAdvisor). Serving header step threads input r s a b) h.advisor_is serves;
 })

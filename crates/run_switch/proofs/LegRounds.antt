@@ -190,9 +190,9 @@ leg_answered order got then n p e q a b c i j k l ready same led passed f shown 
 
 -- up to an error
 
-pub halts_led : (order : ResponseOrder) (input : Option (List ℕ)) (got : List Arrival) (p : Point) (a b : Option (List ℕ)) → Heard input got
-    → GivesEnded p a b → HaltsHeard order input got p a b
-halts_led order input got p a b heard (text, is, written) = record {
+pub halts_led : (header : ℕ) (order : ResponseOrder) (input : Option (List ℕ)) (got : List Arrival) (p : Point) (a b : Option (List ℕ)) → Heard header input got
+    → GivesEnded p a b → HaltsHeard header order input got p a b
+halts_led header order input got p a b heard (text, is, written) = record {
   frames = heard.frames;
   begins = heard.begins;
   later = heard.later;
@@ -214,9 +214,9 @@ halts_led order input got p a b heard (text, is, written) = record {
   );
 }
 
-pub halts_after : (order : ResponseOrder) (input : Option (List ℕ)) (got then : List Arrival) (p e : Point) (a b c : Option (List ℕ)) → IsReady p
-    → Led order (requests_of got) (requests_of then) p e a b → Heard input then → DrainsSome (all_answered e) b c → HaltsHeard order input got p a c
-halts_after order input got then p e a b c ready led heard d =
+pub halts_after : (header : ℕ) (order : ResponseOrder) (input : Option (List ℕ)) (got then : List Arrival) (p e : Point) (a b c : Option (List ℕ)) → IsReady p
+    → Led order (requests_of got) (requests_of then) p e a b → Heard header input then → DrainsSome (all_answered e) b c → HaltsHeard header order input got p a c
+halts_after header order input got then p e a b c ready led heard d =
     let rs = d.rounds in
     let first = Streamed order led.requests in
     let none : offered_in (first ∷ rs) ≡ led.requests = ap (λ (l : List Pairs). led.requests ++ l) (retries_offer_none rs d.retries)
@@ -240,6 +240,6 @@ pub for_these : (threads one : Option ResponseOrder) (xs : List Pairs) (rounds :
     → RoundsFor threads xs rounds
 for_these threads one xs rounds is h = subst (λ (b : Option ResponseOrder). RoundsFor b xs rounds) (sym is) h
 
-pub some_for : (step : AdviceStep) (threads one : Option ResponseOrder) (input : Option (List ℕ)) (p : Point) (s : PlainAdvisor) (a b : Option (List ℕ))
-    → threads ≡ one → ServesSome step one input p s a b → ServesSome step threads input p s a b
-some_for step threads one input p s a b is h = subst (λ (t : Option ResponseOrder). ServesSome step t input p s a b) (sym is) h
+pub some_for : (header : ℕ) (step : AdviceStep) (threads one : Option ResponseOrder) (input : Option (List ℕ)) (p : Point) (s : PlainAdvisor) (a b : Option (List ℕ))
+    → threads ≡ one → ServesSome header step one input p s a b → ServesSome header step threads input p s a b
+some_for header step threads one input p s a b is h = subst (λ (t : Option ResponseOrder). ServesSome header step t input p s a b) (sym is) h

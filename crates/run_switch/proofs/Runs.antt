@@ -118,11 +118,11 @@ closed step p q r s t a b k l d sends rest emptied =
     (record { drained = q; drains = d.drains; sends = sends; rest = rest; emptied = emptied }, d.tells)
 
 -- a cut, rounds, and the end, one after the other
-pub all_served : (step : AdviceStep) (threads : Option ResponseOrder) (frames : List (List ℕ)) (p q r t : Point) (s v u : PlainAdvisor) (a b c : Option (List ℕ))
-    (k l m o : Log) → Cuts p k q l → IsReady q → (f : AdvancesFor step threads frames (stage s q a) l (stage v r b) m)
+pub all_served : (header : ℕ) (step : AdviceStep) (threads : Option ResponseOrder) (frames : List (List ℕ)) (p q r t : Point) (s v u : PlainAdvisor) (a b c : Option (List ℕ))
+    (k l m o : Log) → Cuts p k q l → IsReady q → (f : AdvancesFor header step threads frames (stage s q a) l (stage v r b) m)
     → (d : Closes step r v b t u c) × Tells d.drains.serves.lines 0 m o → (all : ServesAll step f.rounds p s a c) × (all.end ≡ t) × Tells (lines_cut all)
-    (passed_over frames) k o
-all_served step threads frames p q r t s v u a b c k l m o cuts ready f (d, tells) = (
+    (passed_over header frames) k o
+all_served header step threads frames p q r t s v u a b c k l m o cuts ready f (d, tells) = (
   record {
     begun = q;
     cut = cuts.lines;
@@ -139,6 +139,6 @@ all_served step threads frames p q r t s v u a b c k l m o cuts ready f (d, tell
     emptied = d.emptied;
   },
   refl,
-  lines_before cuts.lines (lines_of f.advances ++ d.drains.serves.lines) (passed_over frames) k l o cuts.tells
-      (lines_then (lines_of f.advances) d.drains.serves.lines (passed_over frames) l m o f.tells tells),
+  lines_before cuts.lines (lines_of f.advances ++ d.drains.serves.lines) (passed_over header frames) k l o cuts.tells
+      (lines_then (lines_of f.advances) d.drains.serves.lines (passed_over header frames) l m o f.tells tells),
 )

@@ -16,7 +16,7 @@ use Rattle.tx_plant.specs.declared.turn.Outcome.{Outcome}
 use Rattle.tx_plant.specs.declared.turn.Turn.TheVariants as turn
 use Rattle.run_switch.specs.Points.{IsAtRest, IsReady, Point, unanswered}
 use Rattle.run_responses.specs.Responses.{responses}
-use Rattle.run_input.specs.Requests.{Reads, ReadsOn, if_read, request_of, requests}
+use Rattle.run_input.specs.Requests.{Reads, ReadsOn, if_read, message_in, request_of, requests}
 use Rattle.run_switch.specs.Rounds.{Completed, Does, Drains, IsOfStream, IsRetry, Offered, Released, Round, RoundsFor, Serves, ServesFor, Streamed}
 use Rattle.run_switch.specs.Rounds.{Transacts, Trimmed, answering, offered_in, untrimmed}
 use Rattle.run_responses.specs.declared.sink.ResponseOrder.{ResponseOrder}
@@ -274,26 +274,26 @@ on_err_of (Ok x) h = tt
 on_err_of (Err e) h = h
 
 -- one message of a list, after those before it
-pub halts_message : (list : List (Vec ℕ)) (i : ℕ) (m : Vec ℕ) (bytes : List ℕ) (p q : Point) (a b c : Option (List ℕ)) → i < length list →
+pub halts_message : (header : ℕ) (list : List (Vec ℕ)) (i : ℕ) (m : Vec ℕ) (bytes : List ℕ) (p q : Point) (a b c : Option (List ℕ)) → i < length list →
     m ≡ get_or list i m → bytes ≡ m.items
-    → Serves (answering (requests (messages (take i list)))) p a q b → Halts (answering (map request_of (if_read (read bytes) bytes))) q b c →
-    Halts (answering (requests (messages list))) p a c
-halts_message list i m bytes p q a b c lt at is serves h =
-    let first : Halts (answering (requests (messages (take i list)) ++ map request_of (if_read (read bytes) bytes))) p a c =
-    halts_answering (requests (messages (take i list))) (map request_of (if_read (read bytes) bytes)) p q a b c serves h in
-    let here : Halts (answering (requests (messages (take (i + 1) list)))) p a c =
-    subst (λ (l : List Pairs). Halts (answering l) p a c) (sym (requests_next list i m bytes lt at is)) first in
-    subst (λ (l : List Pairs). Halts (answering l) p a c) (sym (requests_front list (i + 1)))
-    (halts_answers (requests (messages (take (i + 1) list))) (requests (messages (drop (i + 1) list))) p a c here)
+    → Serves (answering (requests header (messages (take i list)))) p a q b → Halts (answering (map (request_of header) (if_read (read (message_in header bytes)) bytes))) q b c →
+    Halts (answering (requests header (messages list))) p a c
+halts_message header list i m bytes p q a b c lt at is serves h =
+    let first : Halts (answering (requests header (messages (take i list)) ++ map (request_of header) (if_read (read (message_in header bytes)) bytes))) p a c =
+    halts_answering (requests header (messages (take i list))) (map (request_of header) (if_read (read (message_in header bytes)) bytes)) p q a b c serves h in
+    let here : Halts (answering (requests header (messages (take (i + 1) list)))) p a c =
+    subst (λ (l : List Pairs). Halts (answering l) p a c) (sym (requests_next header list i m bytes lt at is)) first in
+    subst (λ (l : List Pairs). Halts (answering l) p a c) (sym (requests_front header list (i + 1)))
+    (halts_answers (requests header (messages (take (i + 1) list))) (requests header (messages (drop (i + 1) list))) p a c here)
 
 -- a piece of an input
 
-pub halts_reads : (threads : Option ResponseOrder) (left then : Option (List ℕ)) (more : List (List ℕ)) (s t : State) (p : Point) (a b : Option (List ℕ)) →
-    ReadsOn left s more then t → HaltsToward threads (requests more) p a b → HaltsOn threads left s p a b
-halts_reads threads left then more s t p a b on h = λ input frames reads. (more, record { left = then; state = t; reads = on input frames reads }, h)
+pub halts_reads : (header : ℕ) (threads : Option ResponseOrder) (left then : Option (List ℕ)) (more : List (List ℕ)) (s t : State) (p : Point) (a b : Option (List ℕ)) →
+    ReadsOn left s more then t → HaltsToward threads (requests header more) p a b → HaltsOn header threads left s p a b
+halts_reads header threads left then more s t p a b on h = λ input frames reads. (more, record { left = then; state = t; reads = on input frames reads }, h)
 
-pub halts_unread : (threads : Option ResponseOrder) (left : Option (List ℕ)) (s : State) (p : Point) (a : Option (List ℕ)) → HaltsOn threads left s p a a
-halts_unread threads left s p a = λ input frames reads. (
+pub halts_unread : (header : ℕ) (threads : Option ResponseOrder) (left : Option (List ℕ)) (s : State) (p : Point) (a : Option (List ℕ)) → HaltsOn header threads left s p a a
+halts_unread header threads left s p a = λ input frames reads. (
   [],
   record { left = left; state = s; reads = subst (λ (l : List (List ℕ)). Reads input left l s) (sym (append-nil frames)) reads },
   toward_none threads [] p a,

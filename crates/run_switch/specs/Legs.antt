@@ -67,8 +67,8 @@ pub record AdvancesWith (step : AdviceStep) (threads : Option ResponseOrder) (re
   pub tells : Tells (lines_of advances) passed a b
 
 -- the messages of these frames were answered, or passed over
-abbrev pub AdvancesFor : AdviceStep → Option ResponseOrder → List (List ℕ) → Stage → Log → Stage → Log → Type 0
-AdvancesFor step threads frames x a y b = AdvancesWith step threads (requests frames) (passed_over frames) x a y b
+abbrev pub AdvancesFor : ℕ → AdviceStep → Option ResponseOrder → List (List ℕ) → Stage → Log → Stage → Log → Type 0
+AdvancesFor header step threads frames x a y b = AdvancesWith step threads (requests header frames) (passed_over header frames) x a y b
 
 -- what came of an input was answered, or passed over
 abbrev pub AdvancesBy : AdviceStep → ResponseOrder → List Arrival → Stage → Log → Stage → Log → Type 0

@@ -2,16 +2,13 @@
 --
 -- - *Point*: a plant, and what was given: the id of the last
 --   transaction whose response was, the tally of those that were answered, and how many advices
---   were found. *Unanswered*: the contexts of transactions that ended above that id; *response*:
---   the entry of that name. *At rest*: no session holds a transaction, all is written, and no
---   response is left to give. *Ready*: at rest, the queue empty, nothing to recover, the history
---   not long.
-use Rattle.std.specs.Prelude.{◌≡◌, ◌<◌, ℕ, Bool, false, List, [], ◌∷◌, length, nat_le, Option, Some, None, codes}
+--   were found. *Unanswered*: the contexts of transactions that ended above that id. *At rest*: no
+--   session holds a transaction, all is written, and no response is left to give. *Ready*: at rest,
+--   the queue empty, nothing to recover, the history not long.
+use Rattle.std.specs.Prelude.{◌≡◌, ◌<◌, ℕ, Bool, false, List, [], ◌∷◌, length, nat_le, Option, Some, None}
 use Rattle.std.specs.Ordering.{nat_cmp}
 use Rattle.std.specs.BTreeMap.{insert_entry}
-use Rattle.std.specs.BTreeMap.Range.{entries_between}
-use Rattle.std.specs.declared.ops.Bound.TheVariants.{Excluded, Unbounded}
-use Rattle.sw_context.specs.Pairs.{Pairs, find}
+use Rattle.sw_context.specs.Pairs.{Pairs}
 use Rattle.tx_history.specs.History.{next_id, recovering}
 use Rattle.tx_engine.specs.World.{World}
 use Rattle.tx_engine.specs.Calls.{held_id, waits}
@@ -22,6 +19,7 @@ use Rattle.tx_plant.specs.Core.{without_ended}
 use Rattle.tx_plant.specs.Plant.{Whole, seen, whole}
 use Rattle.tx_seats.specs.Seated.{Seated}
 use Rattle.sw_stats.specs.Tallies.{tallied}
+use Rattle.run_responses.specs.Responses.{above, last_id, response, with_response}
 use Rattle.run_switch.specs.declared.progress.Progress.{Progress}
 use Rattle.run_switch.specs.declared.switch.Switch.{Switch}
 
@@ -57,32 +55,9 @@ IsAllWritten w = w.mark ≡ length w.past
 abbrev pub IsIdle : World → Type 0
 IsIdle w = (s : ℕ) → held_id w s ≡ None
 
--- the contexts of the transactions that ended, with ids above this, in their order
-abbrev pub above : ℕ → List (ℕ × Pairs) → List (ℕ × Pairs)
-above id ended = entries_between nat_cmp (Excluded id) Unbounded ended
-
 -- the contexts whose responses were not given
 abbrev pub unanswered : Point → List (ℕ × Pairs)
 unanswered p = above p.answered.last (ended_at p)
-
--- the response of a context is its entry of that name
-abbrev pub response : Pairs → Option (List ℕ)
-response x = find (codes "response") x
-
--- responses with this one before them, if there is one
-abbrev pub with_response : Option (List ℕ) → List (List ℕ) → List (List ℕ)
-with_response None rs = rs
-with_response (Some r) rs = r ∷ rs
-
--- the responses of these contexts, in their order; a context without one is left out
-abbrev pub responses : List (ℕ × Pairs) → List (List ℕ)
-responses [] = []
-responses (e ∷ es) = with_response (response e.1) (responses es)
-
--- the id of the last of them
-abbrev pub last_id : ℕ → List (ℕ × Pairs) → ℕ
-last_id id [] = id
-last_id id (e ∷ es) = last_id e.0 es
 
 -- the responses of these contexts are given, and each context is counted
 abbrev pub with_given : Progress → List (ℕ × Pairs) → Progress

@@ -73,9 +73,9 @@ abbrev pub HaltsToward : Option ResponseOrder → List Pairs → Point → Optio
 HaltsToward threads requests p before after = (rounds : List Round) × RoundsToward threads requests rounds × Halts rounds p before after
 
 -- of an input read so far, further requests were answered, up to an error
-abbrev pub HaltsOn : Option ResponseOrder → Option (List ℕ) → State → Point → Option (List ℕ) → Option (List ℕ) → Type 0
-HaltsOn threads left s p before after = (input : Option (List ℕ)) (frames : List (List ℕ)) → Reads input left frames s
-    → (more : List (List ℕ)) × BeginsWith input (frames ++ more) × HaltsToward threads (requests more) p before after
+abbrev pub HaltsOn : ℕ → Option ResponseOrder → Option (List ℕ) → State → Point → Option (List ℕ) → Option (List ℕ) → Type 0
+HaltsOn header threads left s p before after = (input : Option (List ℕ)) (frames : List (List ℕ)) → Reads input left frames s
+    → (more : List (List ℕ)) × BeginsWith input (frames ++ more) × HaltsToward threads (requests header more) p before after
 
 -- the first of these requests were answered, with advices sent between them, and some of the others, up to an error
 pub record HaltsLater (step : AdviceStep) (threads : Option ResponseOrder) (all : List Pairs) (x : Stage) (after : Option (List ℕ)) : Type 0 where
@@ -89,18 +89,18 @@ pub record HaltsLater (step : AdviceStep) (threads : Option ResponseOrder) (all 
   pub halts : HaltsToward threads later reached.point reached.out after
 
 -- Of an input so much was heard that these came of it; of what may come next some requests were answered, up to an error.
-pub record HaltsHeard (order : ResponseOrder) (input : Option (List ℕ)) (got : List Arrival) (p : Point) (before after : Option (List ℕ)) : Type 0 where
+pub record HaltsHeard (header : ℕ) (order : ResponseOrder) (input : Option (List ℕ)) (got : List Arrival) (p : Point) (before after : Option (List ℕ)) : Type 0 where
   pub frames : List (List ℕ)
   pub begins : BeginsWith input frames
   pub later : List Pairs
-  pub requests_are : requests frames ≡ requests_of got ++ later
+  pub requests_are : requests header frames ≡ requests_of got ++ later
   pub halts : HaltsToward (Some order) later p before after
 
 -- requests at the beginning of an input were answered, up to an error
-pub record StopsWithin (step : AdviceStep) (threads : Option ResponseOrder) (input : Option (List ℕ)) (x : Stage) (after : Option (List ℕ)) : Type 0 where
+pub record StopsWithin (header : ℕ) (step : AdviceStep) (threads : Option ResponseOrder) (input : Option (List ℕ)) (x : Stage) (after : Option (List ℕ)) : Type 0 where
   pub frames : List (List ℕ)
   pub begins : BeginsWith input frames
-  pub halts : HaltsLater step threads (requests frames) x after
+  pub halts : HaltsLater step threads (requests header frames) x after
 
 -- the queue and the shelf were emptied, up to an error
 pub record DrainsSome (p : Point) (before after : Option (List ℕ)) : Type 0 where
@@ -109,40 +109,40 @@ pub record DrainsSome (p : Point) (before after : Option (List ℕ)) : Type 0 wh
   pub halts : Halts rounds p before after
 
 -- all requests of an input were answered; then the queue and the shelf were emptied, up to an error
-pub record StopsAfter (step : AdviceStep) (threads : Option ResponseOrder) (input : Option (List ℕ)) (x : Stage) (after : Option (List ℕ)) : Type 0 where
+pub record StopsAfter (header : ℕ) (step : AdviceStep) (threads : Option ResponseOrder) (input : Option (List ℕ)) (x : Stage) (after : Option (List ℕ)) : Type 0 where
   pub end : StreamEnd
   pub frames : List (List ℕ)
   pub read : ReadTo end input frames
   pub rounds : List Round
-  pub answers : RoundsFor threads (requests frames) rounds
+  pub answers : RoundsFor threads (requests header frames) rounds
   pub served : Stage
   pub advances : Advances step rounds x served
   pub drains : DrainsSome served.point served.out after
 
 -- the history may be cut, and what an input has was served, up to an error
-pub record Serving (step : AdviceStep) (threads : Option ResponseOrder) (input : Option (List ℕ)) (p : Point) (advisor : PlainAdvisor) (before after : Option (List ℕ)) :
+pub record Serving (header : ℕ) (step : AdviceStep) (threads : Option ResponseOrder) (input : Option (List ℕ)) (p : Point) (advisor : PlainAdvisor) (before after : Option (List ℕ)) :
     Type 0 where
   pub begun : Point
   pub cut : List Line
   pub cuts : MayCut p cut begun
   pub ready : IsReady begun
-  pub serves : StopsWithin step threads input (stage advisor begun before) after ⊎ StopsAfter step threads input (stage advisor begun before) after
+  pub serves : StopsWithin header step threads input (stage advisor begun before) after ⊎ StopsAfter header step threads input (stage advisor begun before) after
 
 -- nothing was written, or what an input has was served, up to an error
-abbrev pub ServesSome : AdviceStep → Option ResponseOrder → Option (List ℕ) → Point → PlainAdvisor → Option (List ℕ) → Option (List ℕ) → Type 0
-ServesSome step threads input p advisor before after = Keeps before after ⊎ Serving step threads input p advisor before after
+abbrev pub ServesSome : ℕ → AdviceStep → Option ResponseOrder → Option (List ℕ) → Point → PlainAdvisor → Option (List ℕ) → Option (List ℕ) → Type 0
+ServesSome header step threads input p advisor before after = Keeps before after ⊎ Serving header step threads input p advisor before after
 
 -- after a run has begun, with or without an input: what that has was served, or the lines of the history were printed, up to an error
-abbrev pub GoesOnSome : AdviceStep → Option ResponseOrder → Option (Option (List ℕ)) → Point → PlainAdvisor → Option (List ℕ) → Option (List ℕ) → Type 0
-GoesOnSome step threads None p advisor before after = AppendsBeginning before after (written_as Text (lines_in (world_at p)))
-GoesOnSome step threads (Some input) p advisor before after = ServesSome step threads input p advisor before after
+abbrev pub GoesOnSome : ℕ → AdviceStep → Option ResponseOrder → Option (Option (List ℕ)) → Point → PlainAdvisor → Option (List ℕ) → Option (List ℕ) → Type 0
+GoesOnSome header step threads None p advisor before after = AppendsBeginning before after (written_as Text (lines_in (world_at p)))
+GoesOnSome header step threads (Some input) p advisor before after = ServesSome header step threads input p advisor before after
 
 -- a run with an input recovered, and served up to an error
-pub record Stopped (step : AdviceStep) (sender : PlainSender) (most : ℕ) (threads : Option ResponseOrder) (f : Flow) (sessions : ℕ) (j : Seen)
+pub record Stopped (header : ℕ) (step : AdviceStep) (sender : PlainSender) (most : ℕ) (threads : Option ResponseOrder) (f : Flow) (sessions : ℕ) (j : Seen)
     (input before after : Option (List ℕ)) : Type 0 where
   pub recovered : Point
   pub begins : Begins f sessions j recovered
-  pub serves : Serving step threads input recovered (begun_advisor sender most begins.view.next_id) before after
+  pub serves : Serving header step threads input recovered (begun_advisor sender most begins.view.next_id) before after
 
 -- a run without one recovered, and wrote a beginning of the lines of its history
 pub record Unprinted (f : Flow) (sessions : ℕ) (j : Seen) (before after : Option (List ℕ)) : Type 0 where
@@ -151,10 +151,10 @@ pub record Unprinted (f : Flow) (sessions : ℕ) (j : Seen) (before after : Opti
   pub written : AppendsBeginning before after (written_as Text (lines_in (world_at recovered)))
 
 -- a run, with or without an input, recovered, and then ended with an error
-abbrev pub StopsWith : AdviceStep → PlainSender → ℕ → Option ResponseOrder → Option (Option (List ℕ)) → Flow → ℕ → Seen → Option (List ℕ) → Option (List ℕ) → Type 0
-StopsWith step sender most threads None f sessions j before after = Unprinted f sessions j before after
-StopsWith step sender most threads (Some input) f sessions j before after = Stopped step sender most threads f sessions j input before after
+abbrev pub StopsWith : ℕ → AdviceStep → PlainSender → ℕ → Option ResponseOrder → Option (Option (List ℕ)) → Flow → ℕ → Seen → Option (List ℕ) → Option (List ℕ) → Type 0
+StopsWith header step sender most threads None f sessions j before after = Unprinted f sessions j before after
+StopsWith header step sender most threads (Some input) f sessions j before after = Stopped header step sender most threads f sessions j input before after
 
 -- a run, with or without an input, ended with an error: before anything was written, or as above
-abbrev pub IsStopped : AdviceStep → PlainSender → ℕ → Option ResponseOrder → Option (Option (List ℕ)) → Flow → ℕ → Seen → Option (List ℕ) → Option (List ℕ) → Type 0
-IsStopped step sender most threads input f sessions j before after = Keeps before after ⊎ StopsWith step sender most threads input f sessions j before after
+abbrev pub IsStopped : ℕ → AdviceStep → PlainSender → ℕ → Option ResponseOrder → Option (Option (List ℕ)) → Flow → ℕ → Seen → Option (List ℕ) → Option (List ℕ) → Type 0
+IsStopped header step sender most threads input f sessions j before after = Keeps before after ⊎ StopsWith header step sender most threads input f sessions j before after

@@ -242,7 +242,8 @@ pub(crate) fn answer_leg<
         (log_of E.contents edge.new.stderr)) }
     ensures ready { IfOk result (λ done. IsReady (point_of S.Store done.0)) }
     ensures end { IfOk result (λ done. IfLast done.1.end done.1.arrivals) }
-    ensures halts { OnErr result (HaltsHeard plan.entry.order B.input arrivals.entry
+    ensures halts { OnErr result (HaltsHeard B.header plan.entry.order B.input
+        arrivals.entry
         (point_of S.Store switch) (O.contents out.old) (O.contents out.new)) }
 {
     arrivals.has_come();

@@ -115,6 +115,7 @@ impl<S: Alter> Switch<S> {
         &mut self,
         edge: &mut Edge<'_, T, E>,
         advisor: &mut Advisor<L>,
+        header: usize,
         input: R,
         out: &mut O,
     ) -> Result<StreamEnd, ServeError>
@@ -122,19 +123,19 @@ impl<S: Alter> Switch<S> {
         requires empty { waits (engine_of self.old.plant) ≡ [] }
         ensures serves { IfOk result (λ end. (frames : List (List ℕ))
             × ReadTo end (R.remaining input) frames
-            × (rounds : List Round) × RoundsFor None (requests frames) rounds
+            × (rounds : List Round) × RoundsFor None (requests header frames) rounds
             × (all : ServesAll (SendsAdvice L.sends L.receives L.starves (Unit {0})) rounds
             (point_of S.Store self.old) advisor.old (O.contents out.old) (O.contents out.new))
             × (all.end ≡ point_of S.Store self.new)
-            × Tells (lines_cut all) (passed_over frames)
+            × Tells (lines_cut all) (passed_over header frames)
             (log_of E.contents edge.old.stderr) (log_of E.contents edge.new.stderr)) }
-        ensures stops { OnErr result (ServesSome
+        ensures stops { OnErr result (ServesSome header
             (SendsAdvice L.sends L.receives L.starves (Unit {0})) None (R.remaining input)
             (point_of S.Store self.old) advisor.old (O.contents out.old) (O.contents out.new)) }
     {
         self.cut_traced(edge)?;
         let mut input = input;
-        let end = answer_input(edge, self, advisor, &mut input, out)?;
+        let end = answer_input(edge, self, advisor, header, &mut input, out)?;
         self.close(edge, advisor, out)?;
         Ok(end)
     }
@@ -175,6 +176,7 @@ impl<S: Alter + Drop> Switch<S> {
         self,
         edge: &mut Edge<'_, T, E>,
         advisor: &mut Advisor<L>,
+        header: usize,
         input: R,
         order: ResponseOrder,
         out: &mut O,
@@ -183,19 +185,19 @@ impl<S: Alter + Drop> Switch<S> {
         requires empty { waits (engine_of self.plant) ≡ [] }
         ensures serves { IfOk result (λ end. (frames : List (List ℕ))
             × ReadTo end (R.remaining input) frames
-            × (rounds : List Round) × RoundsFor (Some order) (requests frames) rounds
+            × (rounds : List Round) × RoundsFor (Some order) (requests header frames) rounds
             × (all : ServesAll (SendsAdvice L.sends L.receives L.starves (Unit {0})) rounds
             (point_of S.Store self) advisor.old (O.contents out.old) (O.contents out.new))
-            × TellsAll (all_lines all) (passed_over frames) all.end
+            × TellsAll (all_lines all) (passed_over header frames) all.end
             (log_of E.contents edge.old.stderr) (log_of E.contents edge.new.stderr)) }
-        ensures stops { OnErr result (ServesSome
+        ensures stops { OnErr result (ServesSome header
             (SendsAdvice L.sends L.receives L.starves (Unit {0})) (Some order) (R.remaining input)
             (point_of S.Store self) advisor.old (O.contents out.old) (O.contents out.new)) }
     {
         let mut switch = self;
         switch.cut_traced(edge)?;
         let served = answer_stream::<S, T, Brand, L, R, O, E>(
-            edge, switch, advisor, input, order, out,
+            edge, switch, advisor, input, header, order, out,
         )?;
         let (mut switch, end) = served;
         let closed = switch.close(edge, advisor, out);
@@ -237,6 +239,7 @@ fn end_of(
 struct Over<S: Alter, R: Read, L: Link> {
     journal: Journal<S>,
     input: Option<R>,
+    header: usize,
     sender: Sender<L>,
     advices: usize,
     sessions: usize,
@@ -248,6 +251,7 @@ impl<S: Alter + Drop, R: Read + Drop, L: Link> Drop for Over<S, R, L> {
         let Over {
             journal: _,
             input: _,
+            header: _,
             sender: _,
             advices: _,
             sessions: _,
@@ -269,16 +273,16 @@ impl<S: Alter + Drop, R: Read + Drop + Send + 'static, L: Link> Over<S, R, L> {
     ) -> Result<StreamEnd, ServeError>
         ensures ran { IfOk result (λ end. IfSome self.input (λ reader. (frames : List (List ℕ))
             × ReadTo end (R.remaining reader) frames
-            × (rounds : List Round) × RoundsFor self.threads (requests frames) rounds
+            × (rounds : List Round) × RoundsFor self.threads (requests self.header frames) rounds
             × (ran : Ran code.now self.sessions (seen (kept S.Store self.journal))
             (SendsAdvice L.sends L.receives L.starves (Unit {0})) self.sender self.advices rounds
             (O.contents out.old) (O.contents out.new))
             × TellsRun edge.old.stderr.words (unfinished_in ran.begins.view)
-            (all_lines ran.serves) (passed_over frames) ran.serves.end
+            (all_lines ran.serves) (passed_over self.header frames) ran.serves.end
             (log_of E.contents edge.old.stderr) (log_of E.contents edge.new.stderr))) }
         ensures printed { OnOk result (IfNone self.input (Printed code.now self.sessions
             (seen (kept S.Store self.journal)) (O.contents out.old) (O.contents out.new))) }
-        ensures stopped { OnErr result (IsStopped
+        ensures stopped { OnErr result (IsStopped self.header
             (SendsAdvice L.sends L.receives L.starves (Unit {0})) self.sender self.advices
             self.threads (option_map R.remaining self.input)
             code.now self.sessions (seen (kept S.Store self.journal))
@@ -287,6 +291,7 @@ impl<S: Alter + Drop, R: Read + Drop + Send + 'static, L: Link> Over<S, R, L> {
         let Over {
             journal,
             input,
+            header,
             sender,
             advices,
             sessions,
@@ -310,6 +315,7 @@ impl<S: Alter + Drop, R: Read + Drop + Send + 'static, L: Link> Over<S, R, L> {
             advisor,
             unfinished,
             input,
+            header,
             threads,
         };
         begun.go_on(edge, out)
@@ -322,6 +328,7 @@ struct Begun<S: Alter, R: Read, L: Link> {
     advisor: Advisor<L>,
     unfinished: Recovered,
     input: Option<R>,
+    header: usize,
     threads: Option<ResponseOrder>,
 }
 
@@ -333,6 +340,7 @@ impl<S: Alter + Drop, R: Read + Drop, L: Link> Drop for Begun<S, R, L> {
             advisor: _,
             unfinished: _,
             input: _,
+            header: _,
             threads: _,
         } = self;
     }
@@ -349,15 +357,15 @@ impl<S: Alter + Drop, R: Read + Drop + Send + 'static, L: Link> Begun<S, R, L> {
         requires empty { waits (engine_of self.switch.plant) ≡ [] }
         ensures serves { IfOk result (λ end. IfSome self.input (λ reader.
             (frames : List (List ℕ)) × ReadTo end (R.remaining reader) frames
-            × (rounds : List Round) × RoundsFor self.threads (requests frames) rounds
+            × (rounds : List Round) × RoundsFor self.threads (requests self.header frames) rounds
             × ServesTold (SendsAdvice L.sends L.receives L.starves (Unit {0})) rounds
             (point_of S.Store self.switch) self.advisor (O.contents out.old) (O.contents out.new)
-            edge.old.stderr.words self.unfinished (passed_over frames)
+            edge.old.stderr.words self.unfinished (passed_over self.header frames)
             (log_of E.contents edge.old.stderr) (log_of E.contents edge.new.stderr))) }
         ensures printed { OnOk result (IfNone self.input (Appends
             (O.contents out.old) (O.contents out.new)
             (written_as Text (lines_in (engine_of self.switch.plant))))) }
-        ensures stops { OnErr result (GoesOnSome
+        ensures stops { OnErr result (GoesOnSome self.header
             (SendsAdvice L.sends L.receives L.starves (Unit {0})) self.threads
             (option_map R.remaining self.input) (point_of S.Store self.switch) self.advisor
             (O.contents out.old) (O.contents out.new)) }
@@ -367,6 +375,7 @@ impl<S: Alter + Drop, R: Read + Drop + Send + 'static, L: Link> Begun<S, R, L> {
             advisor,
             unfinished,
             input,
+            header,
             threads,
         } = self;
         let Some(input) = input else {
@@ -377,9 +386,9 @@ impl<S: Alter + Drop, R: Read + Drop + Send + 'static, L: Link> Begun<S, R, L> {
         let mut advisor = advisor;
         edge.stderr.say_ready(edge.alloc, unfinished);
         if let Some(order) = threads {
-            return switch.answer_together(edge, &mut advisor, input, order, out);
+            return switch.answer_together(edge, &mut advisor, header, input, order, out);
         }
-        let served = switch.answer_in_turn(edge, &mut advisor, input, out);
+        let served = switch.answer_in_turn(edge, &mut advisor, header, input, out);
         let traced = edge.stderr.trace(edge.alloc, switch.engine());
         switch.show(edge);
         end_of(served, traced)
@@ -433,6 +442,10 @@ fn named(
 /// first participant of the flow that the switch does not have (`NoStation`), and the first name that two links
 /// have (`DoubleStation`).
 ///
+/// Before each message of a frame is a header of the setup's number of bytes, which may be 0. It is opaque, is kept with the
+/// transaction, also on the shelf and in the journal, and is written before the response. A frame that is shorter
+/// is passed over, as one whose message cannot be read.
+///
 /// The stations are made here; no caller has one of them.
 pub fn run<
     S: Alter + Drop,
@@ -450,18 +463,18 @@ pub fn run<
 ) -> Result<StreamEnd, ServeError>
     ensures ran { IfOk result (λ end. IfSome input (λ reader. (frames : List (List ℕ))
         × ReadTo end (R.remaining reader) frames
-        × (rounds : List Round) × RoundsFor setup.threads (requests frames) rounds
+        × (rounds : List Round) × RoundsFor setup.threads (requests setup.header frames) rounds
         × (ran : Ran code.now setup.sessions (seen (kept S.Store journal))
         (SendsAdvice ⟦<SwitchLink as Link>⟧.sends ⟦<SwitchLink as Link>⟧.receives
         ⟦<SwitchLink as Link>⟧.starves (Unit {0}))
         (sender_with ⟦<SwitchLink as Link>⟧.state setup.routes setup.advised.items)
         setup.advices rounds (O.contents out.old) (O.contents out.new))
         × TellsRun edge.old.stderr.words (unfinished_in ran.begins.view)
-        (all_lines ran.serves) (passed_over frames) ran.serves.end
+        (all_lines ran.serves) (passed_over setup.header frames) ran.serves.end
         (log_of E.contents edge.old.stderr) (log_of E.contents edge.new.stderr))) }
     ensures printed { OnOk result (IfNone input (Printed code.now setup.sessions
         (seen (kept S.Store journal)) (O.contents out.old) (O.contents out.new))) }
-    ensures stopped { OnErr result (IsStopped
+    ensures stopped { OnErr result (IsStopped setup.header
         (SendsAdvice ⟦<SwitchLink as Link>⟧.sends ⟦<SwitchLink as Link>⟧.receives
         ⟦<SwitchLink as Link>⟧.starves (Unit {0}))
         (sender_with ⟦<SwitchLink as Link>⟧.state setup.routes setup.advised.items)
@@ -476,6 +489,7 @@ pub fn run<
         queried,
         advised,
         advices,
+        header,
         sessions,
         threads,
         timed,
@@ -484,6 +498,7 @@ pub fn run<
     let over = Over {
         journal,
         input,
+        header,
         sender: sender_over(alloc, routes.as_slice(), advised)?,
         advices,
         sessions,

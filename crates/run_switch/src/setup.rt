@@ -42,6 +42,8 @@ pub struct Setup<L: Link> {
     pub advised: Vec<GroupLink<L>>,
     /// The most stored advices that are sent between two reads of the input. 0: none before the input has ended.
     pub advices: usize,
+    /// How many bytes the header before each message of a frame has; they are written before its response. 0 to 64.
+    pub header: usize,
     /// How many sessions the engine has, 1 to 16.
     pub sessions: usize,
     /// Whether the sessions run as threads, and then in which order the responses leave. If not, session 0 runs each transaction.

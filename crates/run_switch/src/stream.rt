@@ -5,7 +5,7 @@ ghost use Rattle.std.specs.Prelude.{length, map, option_to_list};
 ghost use Rattle.sw_frame.specs.Feeds.{messages};
 ghost use Rattle.iso_codec.specs.Reads.{read};
 ghost use Rattle.sw_issuers.specs.Sending.{SendsAdvice};
-ghost use Rattle.run_input.specs.Requests.{ReadTo, if_passed, if_read, passed_over, request_of, requests};
+ghost use Rattle.run_input.specs.Requests.{ReadTo, if_passed, if_read, message_in, passed_over, request_of, requests};
 ghost use Rattle.run_switch.specs.Legs.{AdvancesFor, stage};
 ghost use Rattle.run_switch.specs.Points.{IsReady, point_of};
 ghost use Rattle.run_switch.specs.Rounds.{answering};
@@ -24,18 +24,19 @@ use std::time::Clock;
 use sw_context::Context;
 use sw_parts::Link;
 
-// The context of a request; a message that cannot be read is passed over, and its number is written.
+// The context of a request; a frame whose message cannot be read is passed over, and its number is written.
 fn request_in<T: Clock, E: Write>(
     edge: &mut Edge<'_, T, E>,
     number: u64,
-    message: &[u8],
+    header: usize,
+    frame: &[u8],
 ) -> Result<Option<Context>, ServeError>
     ensures request { IfOk result (λ request. option_to_list request
-        ≡ map request_of (if_read (read message.now) message.now)) }
-    ensures tells { OnOk result (Tells [] (if_passed (read message.now))
+        ≡ map (request_of header) (if_read (read (message_in header frame.now)) frame.now)) }
+    ensures tells { OnOk result (Tells [] (if_passed (read (message_in header frame.now)))
         (log_of E.contents edge.old.stderr) (log_of E.contents edge.new.stderr)) }
 {
-    match arrival_of(edge.alloc, number, message)? {
+    match arrival_of(edge.alloc, number, header, frame)? {
         Arrival::Request(request) => Ok(Some(request)),
         Arrival::Passed(passed) => {
             edge.stderr
@@ -46,27 +47,28 @@ fn request_in<T: Clock, E: Write>(
     }
 }
 
-// Answers messages, one after the other: each that can be read. After each the numbers of the run are written, if they
+// Answers the messages of frames, one after the other: each that can be read. After each the numbers of the run are written, if they
 // are due.
 fn answer_messages<S: Alter, T: Clock, O: Write, E: Write>(
     edge: &mut Edge<'_, T, E>,
     switch: &mut Switch<S>,
+    header: usize,
     count: &mut u64,
     list: &[Vec<u8>],
     out: &mut O,
 ) -> Result<(), ServeError>
     requires ready { IsReady (point_of S.Store switch.old) }
-    ensures serves { OnOk result (Reports (answering (requests (messages list.now)))
-        (passed_over (messages list.now))
+    ensures serves { OnOk result (Reports (answering (requests header (messages list.now)))
+        (passed_over header (messages list.now))
         (point_of S.Store switch.old) (O.contents out.old) (log_of E.contents edge.old.stderr)
         (point_of S.Store switch.new) (O.contents out.new) (log_of E.contents edge.new.stderr)) }
-    ensures halts { OnErr result (Halts (answering (requests (messages list.now)))
+    ensures halts { OnErr result (Halts (answering (requests header (messages list.now)))
         (point_of S.Store switch.old) (O.contents out.old) (O.contents out.new)) }
     ensures ready { OnOk result (IsReady (point_of S.Store switch.new)) }
 {
-    for message in list {
+    for frame in list {
         *count = count.saturating_add(1);
-        let Some(request) = request_in(edge, *count, message)? else {
+        let Some(request) = request_in(edge, *count, header, frame)? else {
             continue;
         };
         let before = switch.answered.counts.requests();
@@ -76,23 +78,24 @@ fn answer_messages<S: Alter, T: Clock, O: Write, E: Write>(
     Ok(())
 }
 
-/// Answers all messages of an input, as they come, and sends stored advices between two reads.
+/// Answers all messages of an input, each after a header of `header` bytes, as they come, and sends stored advices between two reads.
 pub(crate) fn answer_input<S: Alter, T: Clock, L: Link, R: Read, O: Write, E: Write>(
     edge: &mut Edge<'_, T, E>,
     switch: &mut Switch<S>,
     advisor: &mut Advisor<L>,
+    header: usize,
     input: &mut R,
     out: &mut O,
 ) -> Result<StreamEnd, ServeError>
     requires ready { IsReady (point_of S.Store switch.old) }
     ensures serves { IfOk result (λ end. (frames : List (List ℕ))
         × ReadTo end (R.remaining input.old) frames
-        × AdvancesFor (SendsAdvice L.sends L.receives L.starves (Unit {0})) None frames
+        × AdvancesFor header (SendsAdvice L.sends L.receives L.starves (Unit {0})) None frames
         (stage advisor.old (point_of S.Store switch.old) (O.contents out.old))
         (log_of E.contents edge.old.stderr)
         (stage advisor.new (point_of S.Store switch.new) (O.contents out.new))
         (log_of E.contents edge.new.stderr)) }
-    ensures stops { OnErr result (StopsWithin
+    ensures stops { OnErr result (StopsWithin header
         (SendsAdvice L.sends L.receives L.starves (Unit {0})) None (R.remaining input.old)
         (stage advisor.old (point_of S.Store switch.old) (O.contents out.old))
         (O.contents out.new)) }
@@ -103,7 +106,7 @@ pub(crate) fn answer_input<S: Alter, T: Clock, L: Link, R: Read, O: Write, E: Wr
     // More reads than any run makes.
     for _ in 0..u64::MAX {
         let Piece { messages, end } = frames.read(edge.alloc, input, buf.as_mut_slice())?;
-        answer_messages(edge, switch, &mut frames.count, &messages, out)?;
+        answer_messages(edge, switch, header, &mut frames.count, &messages, out)?;
         if let Some(end) = end {
             return Ok(end);
         }

@@ -59,26 +59,28 @@ pub(crate) fn answer_stream<
     switch: Switch<S>,
     advisor: &mut Advisor<L>,
     input: R,
+    header: usize,
     order: ResponseOrder,
     out: &mut O,
 ) -> Result<(Switch<S>, StreamEnd), ServeError>
     requires ready { IsReady (point_of S.Store switch) }
     requires input { R.remaining input ≡ B.input }
+    requires header { header ≡ B.header }
     ensures serves { IfOk result (λ served. (frames : List (List ℕ))
         × ReadTo served.1 B.input frames
-        × AdvancesFor (SendsAdvice L.sends L.receives L.starves (Unit {0})) (Some order) frames
+        × AdvancesFor B.header (SendsAdvice L.sends L.receives L.starves (Unit {0})) (Some order) frames
         (stage advisor.old (point_of S.Store switch) (O.contents out.old))
         (log_of E.contents edge.old.stderr)
         (stage advisor.new (point_of S.Store served.0) (O.contents out.new))
         (log_of E.contents edge.new.stderr)) }
     ensures ready { IfOk result (λ served. IsReady (point_of S.Store served.0)) }
-    ensures stops { OnErr result (StopsWithin
+    ensures stops { OnErr result (StopsWithin B.header
         (SendsAdvice L.sends L.receives L.starves (Unit {0})) (Some order) B.input
         (stage advisor.old (point_of S.Store switch) (O.contents out.old))
         (O.contents out.new)) }
 {
     let watch = Arc::new(edge.alloc, Watch::new())?;
-    let mut arrivals = Arrivals::<B, T>::open(edge.rt, edge.alloc, input, &watch)?;
+    let mut arrivals = Arrivals::<B, T>::open(edge.rt, edge.alloc, input, header, &watch)?;
     let mut switch = switch;
     for _ in edge.rt.forever() {
         arrivals.wait();

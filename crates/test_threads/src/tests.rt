@@ -5,6 +5,7 @@ mod flags;
 mod gates;
 mod handing;
 mod journals;
+mod legs;
 mod meeting;
 mod participants;
 mod plants;

@@ -1,7 +1,9 @@
 //! Runs whose store refuses a write.
 
 use crate::tests::disks::{Disks, found_again, new_disks};
+use crate::tests::flags::new_flag;
 use crate::tests::plants::{Runtime, code_of_two, listed, plant_on, run, stations_of_two};
+use crate::tests::sinks::Recording;
 use flow_asm::Code;
 use journal_store::{Journal, JournalError, Left};
 use sqlite::{Alter, Connection, Options};
@@ -11,7 +13,7 @@ use tx_history::JournalView;
 use tx_intake::Listed;
 use tx_machine::Phase;
 use tx_plant::{Plant, PlantParts};
-use tx_pool::{Fault, Late, Open, Pool, PoolError, Report};
+use tx_pool::{Fault, Late, Open, Pool, PoolError, Report, Streams};
 
 /// More calls of the disks than any run makes.
 const MOST_CALLS: u64 = 10_000;
@@ -22,13 +24,21 @@ const ALL: u64 = 4;
 /// is notified of the commit; nobody is notified.
 const CALLS_OF_RECOVERY: [u64; 5] = [1, 2, 2, 1, 0];
 
+/// What a run that was given up left beside its journal.
+#[derive(Drop)]
+struct Remains {
+    stations: Vec<Station>,
+    /// How many transactions the sink took.
+    taken: usize,
+}
+
 /// What became of a plant whose store refuses a call.
 #[derive(Drop)]
 enum Life {
     /// The journal was not opened, or not read.
     NotOpened,
     /// The run was given up.
-    GivenUp(Vec<Station>),
+    GivenUp(Remains),
     /// The run ended well.
     Done,
     /// It recovered what a run that was given up had left. This many replies of its transaction were written;
@@ -51,26 +61,40 @@ fn left_store<S: Alter + Drop>(left: Left<S>) -> S {
     }
 }
 
-// What became of a run over a journal that may refuse, and the journal.
-fn life_of<S: Alter + Drop, R: Runtime>(
+// What a run left that was given up since its journal refused.
+fn given_up<S: Alter + Drop, R: Runtime>(
     rt: &R,
-    ran: Result<(Plant<S>, Listed, Report), PoolError<S>>,
+    error: PoolError<S>,
+    sink: &Recording,
 ) -> Result<(Life, Journal<S>), Fail> {
-    match ran {
-        Ok((plant, _source, _report)) => {
-            let journal = plant.into_parts().journal;
-            Ok((Life::Done, journal))
-        }
-        Err(PoolError::Late(late)) => {
+    match error {
+        PoolError::Late(late) => {
             let Late {
                 cause,
                 journal,
                 stations,
             } = late;
             assert!(rt; matches!(&cause, Fault::Journal(JournalError::Store(_))));
-            Ok((Life::GivenUp(stations), journal))
+            let taken = sink.taken().len();
+            Ok((Life::GivenUp(Remains { stations, taken }), journal))
         }
-        Err(PoolError::Early(_plant, _cause)) => Err(Fail::new("early")),
+        PoolError::Early(_plant, _cause) => Err(Fail::new("early")),
+    }
+}
+
+// What became of a run over a journal that may refuse, and the journal.
+fn life_of<S: Alter + Drop, R: Runtime>(
+    rt: &R,
+    ran: Result<(Plant<S>, Streams<Listed, Recording>, Report), (PoolError<S>, Recording)>,
+) -> Result<(Life, Journal<S>), Fail> {
+    match ran {
+        Ok((plant, streams, _report)) => {
+            let (_source, sink) = streams.into_parts();
+            assert!(rt; sink.taken().len() == 1);
+            let journal = plant.into_parts().journal;
+            Ok((Life::Done, journal))
+        }
+        Err((error, sink)) => given_up(rt, error, &sink),
     }
 }
 
@@ -92,7 +116,11 @@ fn run_first<S: Alter + Drop, R: Runtime>(
         }
     };
     plant.engine_is_sound();
-    let ran = Pool::run(rt, alloc, plant, listed(alloc, 1)?, 4, &Open);
+    let streams = Streams {
+        source: listed(alloc, 1)?,
+        sink: Recording::new(alloc, 4, new_flag(alloc)?)?,
+    };
+    let ran = Pool::run_into(rt, alloc, plant, streams, 4, &Open);
     let (life, journal) = life_of(rt, ran)?;
     Ok((life, journal.into_connection().into_store()))
 }
@@ -116,14 +144,15 @@ fn are_calls_of(written: Option<u64>, made: u64) -> bool {
     }
 }
 
-// A new plant of these stations recovers what the first has left, and runs one more offer.
+// A new plant of the stations that are left recovers what the first has left, and runs one more offer.
 fn run_again<S: Alter + Drop, R: Runtime>(
     rt: &R,
     code: &Code,
     conn: Connection<S>,
-    stations: Vec<Station>,
+    remains: Remains,
 ) -> Result<(Life, S), Fail> {
     let alloc = rt.alloc();
+    let Remains { stations, taken } = remains;
     let made = calls_of(stations.as_slice());
     let journal = match Journal::open(alloc, conn) {
         Ok(journal) => journal,
@@ -132,6 +161,11 @@ fn run_again<S: Alter + Drop, R: Runtime>(
     let mut plant = plant_on(alloc, code, journal, stations, 1)?;
     let written = replies_in(plant.engine().opened());
     assert!(rt; are_calls_of(written, made), "{made} calls are made");
+    // The sink takes a transaction only once its last entry is written.
+    assert!(rt;
+        taken == 0 || written == Some(ALL),
+        "{taken} ends are taken"
+    );
     assert!(rt; plant.recover(alloc).is_ok());
     let (plant, _, report) = run(rt, plant, listed(alloc, 1)?, 4, &Open)?;
     assert!(rt; report.finished == 1);
@@ -152,13 +186,13 @@ fn run_again<S: Alter + Drop, R: Runtime>(
     ))
 }
 
-// Runs a plant over the journal in these files; with stations, on what a first one left. (Each function that calls
+// Runs a plant over the journal in these files; on what a first one left, if it is given. (Each function that calls
 // a generic one at the store of these disks is slow to prove, so only this one does.)
 fn run_files<R: Runtime>(
     rt: &R,
     code: &Code,
     files: Disks,
-    kept: Option<Vec<Station>>,
+    left: Option<Remains>,
 ) -> Result<(Life, Disks), Fail> {
     if !files.may_be_used() {
         return Err(Fail::new("the disks are not as they are opened"));
@@ -167,9 +201,9 @@ fn run_files<R: Runtime>(
         Ok(conn) => conn,
         Err((_, left)) => return Ok((Life::NotOpened, left.into_files())),
     };
-    let (life, store) = match kept {
+    let (life, store) = match left {
         None => run_first(rt, code, conn)?,
-        Some(stations) => run_again(rt, code, conn, stations)?,
+        Some(remains) => run_again(rt, code, conn, remains)?,
     };
     Ok((life, store.close()))
 }
@@ -183,9 +217,9 @@ fn refuse_each<R: Runtime>(rt: &R) -> Result<(), Fail> {
         let (life, files) = run_files(rt, &code, new_disks(alloc, calls)?, None)?;
         match life {
             Life::Done => break,
-            Life::GivenUp(stations) => {
+            Life::GivenUp(remains) => {
                 let files = found_again(alloc, files)?;
-                let (life, _) = run_files(rt, &code, files, Some(stations))?;
+                let (life, _) = run_files(rt, &code, files, Some(remains))?;
                 let Life::Recovered(written) = life else {
                     return Err(Fail::new("the journal is not found again"));
                 };

@@ -7,5 +7,5 @@ invariant-loop g l = record {
   own : l.putter.intake ≡ l.queue.intake.id;
   room : 0 < length l.buf.items;
   sound : l.frames.framer.failed ≡ false;
-  so : CameSo g.B.Input.input (g.R.Read.remaining l.input) l.frames.framer l.putter.passed [];
+  so : CameSo g.B.Input.header g.B.Input.input (g.R.Read.remaining l.input) l.frames.framer l.putter.passed [];
 }

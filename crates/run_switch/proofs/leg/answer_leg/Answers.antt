@@ -13,9 +13,9 @@ returns-in-Ok-clause-answered g c =
 
 pub returns-in_err-led-clause-halts : goal.returns-in_err-led-clause-halts
 returns-in_err-led-clause-halts g c =
-    on_err_of c.from_residual.result (halts_led _ g.B.Input.input _ _ _ _ (came_so_far g.B.Input.input _ c.has_come.ensures) c.in_err-led.ensures.some)
+    on_err_of c.from_residual.result (halts_led g.B.Input.header _ g.B.Input.input _ _ _ _ (came_so_far g.B.Input.header g.B.Input.input _ c.has_come.ensures) c.in_err-led.ensures.some)
 
 pub returns-clause-halts : goal.returns-clause-halts
 returns-clause-halts g c =
-    halts_after _ g.B.Input.input _ _ _ _ _ _ _ c.requires.ready c.in_ok-led.ensures.led (came_so_far g.B.Input.input _ c.has_come-2.ensures)
+    halts_after g.B.Input.header _ g.B.Input.input _ _ _ _ _ _ _ c.requires.ready c.in_ok-led.ensures.led (came_so_far g.B.Input.header g.B.Input.input _ c.has_come-2.ensures)
     c.in-Err.ensures.stops

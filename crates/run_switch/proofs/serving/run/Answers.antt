@@ -22,37 +22,37 @@ use Rattle.run_switch.proofs.Stops.{on_err_of}
 use Rattle.run_switch.proofs.serving.run.Goals as goal
 
 -- what a run promises, of the sender that it was given
-abbrev RanBy : {R : Type 0} → Result StreamEnd ServeError → Option R → (R → Option (List ℕ)) → Option ResponseOrder → Flow → ℕ → Seen → AdviceStep → ℕ → Option (List ℕ) →
+abbrev RanBy : {R : Type 0} → ℕ → Result StreamEnd ServeError → Option R → (R → Option (List ℕ)) → Option ResponseOrder → Flow → ℕ → Seen → AdviceStep → ℕ → Option (List ℕ) →
     Option (List ℕ) → Option Words → Log → Log → PlainSender → Type 0
-RanBy r input remaining threads f n j step most a b words k l sender =
+RanBy header r input remaining threads f n j step most a b words k l sender =
     IfOk r (λ end. IfSome input (λ reader. (frames : List (List ℕ)) × ReadTo end (remaining reader) frames × (rounds : List Round)
-    × RoundsFor threads (requests frames) rounds
+    × RoundsFor threads (requests header frames) rounds
     × (ran : Ran f n j step sender most rounds a b)
-    × TellsRun words (unfinished_in ran.begins.view) (all_lines ran.serves) (passed_over frames) ran.serves.end k l))
+    × TellsRun words (unfinished_in ran.begins.view) (all_lines ran.serves) (passed_over header frames) ran.serves.end k l))
 
-of_sender : {R : Type 0} (r : Result StreamEnd ServeError) (input : Option R) (remaining : R → Option (List ℕ)) (threads : Option ResponseOrder) (f : Flow) (n : ℕ)
+of_sender : {R : Type 0} (header : ℕ) (r : Result StreamEnd ServeError) (input : Option R) (remaining : R → Option (List ℕ)) (threads : Option ResponseOrder) (f : Flow) (n : ℕ)
     (j : Seen) (step : AdviceStep) (most : ℕ) (a b : Option (List ℕ)) (words : Option Words) (k l : Log)
-    (s t : PlainSender) → s ≡ t → RanBy r input remaining threads f n j step most a b words k l s
-    → RanBy r input remaining threads f n j step most a b words k l t
-of_sender r input remaining threads f n j step most a b words k l s t is h =
-    subst (RanBy r input remaining threads f n j step most a b words k l) is h
+    (s t : PlainSender) → s ≡ t → RanBy header r input remaining threads f n j step most a b words k l s
+    → RanBy header r input remaining threads f n j step most a b words k l t
+of_sender header r input remaining threads f n j step most a b words k l s t is h =
+    subst (RanBy header r input remaining threads f n j step most a b words k l) is h
 
 over_same_routes : {X : Type 0} (state : X → List ℕ) (s : PlainSender) (routes others : List Routing) (links : List (GroupLink X)) →
     s ≡ sender_with state routes links → routes ≡ others → s ≡ sender_with state others links
 over_same_routes state s routes others links is same = subst (λ (rs : List Routing). s ≡ sender_with state rs links) same is
 
 pub returns-clause-ran : goal.returns-clause-ran
-returns-clause-ran g c = of_sender c.run.result c.args.input g.R.Read.remaining c.args.setup.threads _ _ _ _ _ _ _ _ _ _ _ _
+returns-clause-ran g c = of_sender c.args.setup.header c.run.result c.args.input g.R.Read.remaining c.args.setup.threads _ _ _ _ _ _ _ _ _ _ _ _
     (over_same_routes _ _ _ _ _ c.in_ok-sender_over.ensures c.as_slice.ensures) c.run.ensures.ran
 
 -- and where it ends with an error
-stopped_by : (r : Result StreamEnd ServeError) (step : AdviceStep) (most : ℕ) (threads : Option ResponseOrder) (input : Option (Option (List ℕ))) (f : Flow) (n : ℕ)
+stopped_by : (header : ℕ) (r : Result StreamEnd ServeError) (step : AdviceStep) (most : ℕ) (threads : Option ResponseOrder) (input : Option (Option (List ℕ))) (f : Flow) (n : ℕ)
     (j : Seen) (a b : Option (List ℕ)) (s t : PlainSender)
-    → s ≡ t → OnErr r (IsStopped step s most threads input f n j a b) → OnErr r (IsStopped step t most threads input f n j a b)
-stopped_by r step most threads input f n j a b s t is h = subst (λ (z : PlainSender). OnErr r (IsStopped step z most threads input f n j a b)) is h
+    → s ≡ t → OnErr r (IsStopped header step s most threads input f n j a b) → OnErr r (IsStopped header step t most threads input f n j a b)
+stopped_by header r step most threads input f n j a b s t is h = subst (λ (z : PlainSender). OnErr r (IsStopped header step z most threads input f n j a b)) is h
 
 pub returns-clause-stopped : goal.returns-clause-stopped
-returns-clause-stopped g c = stopped_by c.run.result _ _ _ _ _ _ _ _ _ _ _ (over_same_routes _ _ _ _ _ c.in_ok-sender_over.ensures c.as_slice.ensures)
+returns-clause-stopped g c = stopped_by c.args.setup.header c.run.result _ _ _ _ _ _ _ _ _ _ _ (over_same_routes _ _ _ _ _ c.in_ok-sender_over.ensures c.as_slice.ensures)
     c.run.ensures.stopped
 
 pub returns-in_default-clause-stopped : goal.returns-in_default-clause-stopped

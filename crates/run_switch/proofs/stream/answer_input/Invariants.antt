@@ -13,7 +13,7 @@ invariant-loop g l = record {
   sound : l.frames.framer.failed ≡ false;
   messages : List (List ℕ);
   reads : Reads (g.R.Read.remaining l.fn.input) (g.R.Read.remaining l.input) messages l.frames.framer;
-  serves : AdvancesFor (SendsAdvice g.L.Link.sends g.L.Link.receives g.L.Link.starves (Unit {0})) None messages
+  serves : AdvancesFor l.fn.header (SendsAdvice g.L.Link.sends g.L.Link.receives g.L.Link.starves (Unit {0})) None messages
       (stage l.fn.advisor (point l.fn.switch.plant.running.engine l.fn.switch.plant.running.seats (kept g.S.Store l.fn.switch.plant.journal)
       l.fn.switch.answered) (g.O.Write.contents l.fn.out)) (log_of g.E.Write.contents l.fn.edge.stderr)
       (stage l.advisor (point l.switch.plant.running.engine l.switch.plant.running.seats (kept g.S.Store l.switch.plant.journal) l.switch.answered)

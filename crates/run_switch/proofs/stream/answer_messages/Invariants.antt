@@ -7,9 +7,9 @@ use Rattle.run_switch.specs.Traces.{Reports, log_of}
 use Rattle.run_input.specs.Requests.{passed_over, requests}
 use Rattle.run_switch.proofs.stream.answer_messages.Given as goal
 
-abbrev pub invariant-loop-message : goal.invariant-loop-message
-invariant-loop-message g l = record {
-  serves : Reports (answering (requests (messages (take l.message-index l.list)))) (passed_over (messages (take l.message-index l.list)))
+abbrev pub invariant-loop-frame : goal.invariant-loop-frame
+invariant-loop-frame g l = record {
+  serves : Reports (answering (requests l.fn.header (messages (take l.frame-index l.list)))) (passed_over l.fn.header (messages (take l.frame-index l.list)))
       (point l.fn.switch.plant.running.engine l.fn.switch.plant.running.seats (kept g.S.Store l.fn.switch.plant.journal) l.fn.switch.answered)
       (g.O.Write.contents l.fn.out) (log_of g.E.Write.contents l.fn.edge.stderr)
       (point l.switch.plant.running.engine l.switch.plant.running.seats (kept g.S.Store l.switch.plant.journal) l.switch.answered)

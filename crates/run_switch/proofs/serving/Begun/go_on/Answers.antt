@@ -29,14 +29,14 @@ returns-in-Some-threads-clause-serves g c =
       served.0,
       served.1,
       served.2,
-      for_these c.args.self.threads (Some c.in-Some-threads.order) (requests served.0) served.2 c.in-Some-threads.is served.3,
+      for_these c.args.self.threads (Some c.in-Some-threads.order) (requests c.args.self.header served.0) served.2 c.in-Some-threads.is served.3,
       told_ready _ _ _ _ _ _ _ _ _ _ _ _ c.say_ready.ensures (served.4, served.5),
     )) c.answer_together.ensures.serves
 
 pub returns-in-Some-threads-clause-stops : goal.returns-in-Some-threads-clause-stops
 returns-in-Some-threads-clause-stops g c =
-    on_err c.answer_together.result (λ some. goes_some _ c.args.self.threads g.R.Read.remaining c.args.self.input c.in-Some.input _ _ _ _ c.in-Some.is
-    (some_for _ c.args.self.threads (Some c.in-Some-threads.order) _ _ _ _ _ c.in-Some-threads.is some)) c.answer_together.ensures.stops
+    on_err c.answer_together.result (λ some. goes_some c.args.self.header _ c.args.self.threads g.R.Read.remaining c.args.self.input c.in-Some.input _ _ _ _ c.in-Some.is
+    (some_for c.args.self.header _ c.args.self.threads (Some c.in-Some-threads.order) _ _ _ _ _ c.in-Some-threads.is some)) c.answer_together.ensures.stops
 
 pub returns-clause-serves : goal.returns-clause-serves
 returns-clause-serves g c =
@@ -45,22 +45,22 @@ returns-clause-serves g c =
       served.0,
       served.1,
       served.2,
-      for_these c.args.self.threads None (requests served.0) served.2 c.in_default-threads.is served.3,
+      for_these c.args.self.threads None (requests c.args.self.header served.0) served.2 c.in_default-threads.is served.3,
       told_ready _ _ _ _ _ _ _ _ _ _ _ _ c.say_ready.ensures
           (told_last _ _ _ _ _ _ _ _ _ _ _ _ _ served.4 served.5 c.engine-2.ensures served.6 left c.show.ensures.shows),
     ))
 
 pub returns-in_err-print-clause-stops : goal.returns-in_err-print-clause-stops
 returns-in_err-print-clause-stops g c =
-    on_err_of c.from_residual.result (goes_none _ c.args.self.threads g.R.Read.remaining c.args.self.input _ _ _ _ c.in_default.is
+    on_err_of c.from_residual.result (goes_none c.args.self.header _ c.args.self.threads g.R.Read.remaining c.args.self.input _ _ _ _ c.in_default.is
     (subst (λ (w : World). AppendsBeginning (g.O.Write.contents c.args.out.now) (g.O.Write.contents c.print.new.out) (written_as Text (lines_in w)))
     c.engine.ensures c.in_err-print.ensures.beginning))
 
 pub returns-clause-stops : goal.returns-clause-stops
 returns-clause-stops g c =
     either_way c.answer_in_turn-served.result c.end_of.result c.answer_in_turn-served.ensures.serves c.answer_in_turn-served.ensures.stops
-    (λ end served. goes_some _ c.args.self.threads g.R.Read.remaining c.args.self.input c.in-Some.input _ _ _ _ c.in-Some.is
-    (inr (served_all c.args.self.threads _ _ _ _ _ _ end served.0 served.2 served.1
-    (for_these c.args.self.threads None (requests served.0) served.2 c.in_default-threads.is served.3) served.4)))
-    (λ some. goes_some _ c.args.self.threads g.R.Read.remaining c.args.self.input c.in-Some.input _ _ _ _ c.in-Some.is
-    (some_for _ c.args.self.threads None _ _ _ _ _ c.in_default-threads.is some))
+    (λ end served. goes_some c.args.self.header _ c.args.self.threads g.R.Read.remaining c.args.self.input c.in-Some.input _ _ _ _ c.in-Some.is
+    (inr (served_all c.args.self.header c.args.self.threads _ _ _ _ _ _ end served.0 served.2 served.1
+    (for_these c.args.self.threads None (requests c.args.self.header served.0) served.2 c.in_default-threads.is served.3) served.4)))
+    (λ some. goes_some c.args.self.header _ c.args.self.threads g.R.Read.remaining c.args.self.input c.in-Some.input _ _ _ _ c.in-Some.is
+    (some_for c.args.self.header _ c.args.self.threads None _ _ _ _ _ c.in_default-threads.is some))

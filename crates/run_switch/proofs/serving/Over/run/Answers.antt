@@ -30,45 +30,45 @@ use Rattle.run_switch.proofs.Stops.{on_err_of}
 use Rattle.run_switch.proofs.serving.Over.run.Goals as goal
 
 -- what was served of this input
-abbrev Served : {R : Type 0} → (R → Option (List ℕ)) → Option ResponseOrder → AdviceStep → Point → PlainAdvisor → Option (List ℕ) → Option (List ℕ) → Option Words →
+abbrev Served : {R : Type 0} → ℕ → (R → Option (List ℕ)) → Option ResponseOrder → AdviceStep → Point → PlainAdvisor → Option (List ℕ) → Option (List ℕ) → Option Words →
     Recovered → Log → Log → StreamEnd → R → Type 0
-Served remaining threads step p advisor a b words unfinished k l end reader =
-    (frames : List (List ℕ)) × ReadTo end (remaining reader) frames × (rounds : List Round) × RoundsFor threads (requests frames) rounds
-    × ServesTold step rounds p advisor a b words unfinished (passed_over frames) k l
+Served header remaining threads step p advisor a b words unfinished k l end reader =
+    (frames : List (List ℕ)) × ReadTo end (remaining reader) frames × (rounds : List Round) × RoundsFor threads (requests header frames) rounds
+    × ServesTold step rounds p advisor a b words unfinished (passed_over header frames) k l
 
-ran_over : {R : Type 0} (r : Result StreamEnd ServeError) (other input : Option R) (remaining : R → Option (List ℕ)) (one threads : Option ResponseOrder) (f : Flow)
+ran_over : {R : Type 0} (header : ℕ) (r : Result StreamEnd ServeError) (other input : Option R) (remaining : R → Option (List ℕ)) (one threads : Option ResponseOrder) (f : Flow)
     (n : ℕ) (j : Seen) (sender : PlainSender) (most : ℕ) (p : Point) (advisor : PlainAdvisor) (unfinished : Recovered) (step : AdviceStep)
     (a b : Option (List ℕ)) (words : Option Words) (k l : Log) → other ≡ input → one ≡ threads → HasBegun f n j sender most p advisor unfinished
-    → IfOk r (λ end. IfSome other (Served remaining one step p advisor a b words unfinished k l end))
+    → IfOk r (λ end. IfSome other (Served header remaining one step p advisor a b words unfinished k l end))
     → IfOk r (λ end. IfSome input (λ reader. (frames : List (List ℕ)) × ReadTo end (remaining reader) frames × (rounds : List Round)
-    × RoundsFor threads (requests frames) rounds
+    × RoundsFor threads (requests header frames) rounds
     × (ran : Ran f n j step sender most rounds a b)
-    × TellsRun words (unfinished_in ran.begins.view) (all_lines ran.serves) (passed_over frames) ran.serves.end k l))
-ran_over (Err e) other input remaining one threads f n j sender most p advisor unfinished step a b words k l same by h served = tt
-ran_over (Ok end) other None remaining one threads f n j sender most p advisor unfinished step a b words k l same by h served = tt
-ran_over {R} (Ok end) other (Some reader) remaining one threads f n j sender most p advisor unfinished step a b words k l same by h served =
-    let here : Served remaining one step p advisor a b words unfinished k l end reader =
-    subst (λ (z : Option R). IfSome z (Served remaining one step p advisor a b words unfinished k l end)) same served in
+    × TellsRun words (unfinished_in ran.begins.view) (all_lines ran.serves) (passed_over header frames) ran.serves.end k l))
+ran_over header (Err e) other input remaining one threads f n j sender most p advisor unfinished step a b words k l same by h served = tt
+ran_over header (Ok end) other None remaining one threads f n j sender most p advisor unfinished step a b words k l same by h served = tt
+ran_over {R} header (Ok end) other (Some reader) remaining one threads f n j sender most p advisor unfinished step a b words k l same by h served =
+    let here : Served header remaining one step p advisor a b words unfinished k l end reader =
+    subst (λ (z : Option R). IfSome z (Served header remaining one step p advisor a b words unfinished k l end)) same served in
     let (frames, read, rounds, are, told) = here in
-    let (done, tells) = ran_from f n j sender most p advisor unfinished step rounds a b words (passed_over frames) k l h told in
-    (frames, read, rounds, for_these threads one (requests frames) rounds (sym by) are, done, tells)
+    let (done, tells) = ran_from f n j sender most p advisor unfinished step rounds a b words (passed_over header frames) k l h told in
+    (frames, read, rounds, for_these threads one (requests header frames) rounds (sym by) are, done, tells)
 
 if_none_too : {R : Type 0} {P Q : Type 0} (other input : Option R) → other ≡ input → (P → Q) → IfNone other P → IfNone input Q
 if_none_too other (Some x) same f h = tt
 if_none_too {R} {P} other None same f h = f (subst (λ (z : Option R). IfNone z P) same h)
 
 -- and where it ends with an error
-stopped_over : {R : Type 0} (r : Result StreamEnd ServeError) (other input : Option R) (remaining : R → Option (List ℕ)) (one threads : Option ResponseOrder) (f : Flow)
+stopped_over : {R : Type 0} (header : ℕ) (r : Result StreamEnd ServeError) (other input : Option R) (remaining : R → Option (List ℕ)) (one threads : Option ResponseOrder) (f : Flow)
     (n : ℕ) (j : Seen) (sender : PlainSender) (most : ℕ) (p : Point) (advisor : PlainAdvisor) (unfinished : Recovered) (step : AdviceStep)
     (a b : Option (List ℕ)) → other ≡ input → one ≡ threads → HasBegun f n j sender most p advisor unfinished
-    → OnErr r (GoesOnSome step one (option_map remaining other) p advisor a b)
-    → OnErr r (IsStopped step sender most threads (option_map remaining input) f n j a b)
-stopped_over (Ok end) other input remaining one threads f n j sender most p advisor unfinished step a b same by h some = tt
-stopped_over {R} (Err e) other input remaining one threads f n j sender most p advisor unfinished step a b same by h some =
-    let here : GoesOnSome step one (option_map remaining input) p advisor a b =
-    subst (λ (z : Option R). GoesOnSome step one (option_map remaining z) p advisor a b) same some in
-    stopped f n j sender most p advisor unfinished step threads (option_map remaining input) a b h
-    (subst (λ (t : Option ResponseOrder). GoesOnSome step t (option_map remaining input) p advisor a b) by here)
+    → OnErr r (GoesOnSome header step one (option_map remaining other) p advisor a b)
+    → OnErr r (IsStopped header step sender most threads (option_map remaining input) f n j a b)
+stopped_over header (Ok end) other input remaining one threads f n j sender most p advisor unfinished step a b same by h some = tt
+stopped_over {R} header (Err e) other input remaining one threads f n j sender most p advisor unfinished step a b same by h some =
+    let here : GoesOnSome header step one (option_map remaining input) p advisor a b =
+    subst (λ (z : Option R). GoesOnSome header step one (option_map remaining z) p advisor a b) same some in
+    stopped header f n j sender most p advisor unfinished step threads (option_map remaining input) a b h
+    (subst (λ (t : Option ResponseOrder). GoesOnSome header step t (option_map remaining input) p advisor a b) by here)
 
 pub go_on-requires-clause-rest : goal.go_on-requires-clause-rest
 go_on-requires-clause-rest g c =
@@ -110,7 +110,7 @@ returns-clause-ran g c =
     let begins : c.begin-answered.result ≡ begun_in made.core.world c.opened.result.now.next_id =
     c.begin-answered.ensures ∙ ap (λ (w : World). begun_in w c.opened.result.now.next_id) c.engine-2.ensures in
     let begun = has_begun c.args.code.now c.args.self.sessions view (seen (kept g.S.Store c.args.self.journal)) made c.opened.result.now.next_id c.begin-answered.result _ c.args.self.sender c.args.self.advices _ _ is first begins c.in_ok-recover.ensures.recovers c.new-advisor.ensures c.unfinished-unfinished.ensures in
-    ran_over c.go_on.result c.args.self.input c.args.self.input g.R.Read.remaining _ c.args.self.threads _ _ _ _ _ _ _ _ _ _ _ _ _ _ refl refl begun
+    ran_over c.args.self.header c.go_on.result c.args.self.input c.args.self.input g.R.Read.remaining _ c.args.self.threads _ _ _ _ _ _ _ _ _ _ _ _ _ _ refl refl begun
     c.go_on.ensures.serves
 
 pub returns-clause-printed : goal.returns-clause-printed
@@ -140,7 +140,7 @@ returns-clause-stopped g c =
     let begins : c.begin-answered.result ≡ begun_in made.core.world c.opened.result.now.next_id =
     c.begin-answered.ensures ∙ ap (λ (w : World). begun_in w c.opened.result.now.next_id) c.engine-2.ensures in
     let begun = has_begun c.args.code.now c.args.self.sessions view (seen (kept g.S.Store c.args.self.journal)) made c.opened.result.now.next_id c.begin-answered.result _ c.args.self.sender c.args.self.advices _ _ is first begins c.in_ok-recover.ensures.recovers c.new-advisor.ensures c.unfinished-unfinished.ensures in
-    stopped_over c.go_on.result c.args.self.input c.args.self.input g.R.Read.remaining _ c.args.self.threads _ _ _ _ _ _ _ _ _ _ _ refl refl begun
+    stopped_over c.args.self.header c.go_on.result c.args.self.input c.args.self.input g.R.Read.remaining _ c.args.self.threads _ _ _ _ _ _ _ _ _ _ _ refl refl begun
     c.go_on.ensures.stops
 
 pub returns-in_err-recover-clause-stopped : goal.returns-in_err-recover-clause-stopped

@@ -7,7 +7,7 @@ use Rattle.run_switch.proofs.switch.Switch.answer_in_turn.Goals as goal
 pub returns : goal.returns
 returns g c =
     let (frames, read, serves) = c.in_ok-end.ensures.serves in
-    let (all, end, tells) = all_served _ None frames _ _ _ _ _ _ _ _ _ _ _ _ _ _ c.in_ok-cut_traced.ensures.cuts c.in_ok-cut_traced.ensures.ready serves
+    let (all, end, tells) = all_served c.args.header _ None frames _ _ _ _ _ _ _ _ _ _ _ _ _ _ c.in_ok-cut_traced.ensures.cuts c.in_ok-cut_traced.ensures.ready serves
     c.in_ok-close.ensures.closes in
     record { stops = tt; serves = (frames, read, serves.rounds, serves.answers, all, end, tells) }
 
