@@ -82,6 +82,7 @@ LIMITS = {
 RUN = {
     "advices": (integers(0, 256), False, False),
     "allow": (lists(32), False, False),
+    "header": (integers(0, 64), False, False),
     "journal": (PATH, False, False),
     "log": (PATH, False, False),
     "sessions": (integers(1, 16), False, False),

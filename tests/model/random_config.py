@@ -41,6 +41,7 @@ def route(random):
 def run(random):
     return {
         "advices": random.choice([0, 1, 256]),
+        "header": random.choice([0, 24, 64]),
         "sessions": random.randint(1, 16),
         "threads": random.random() < 0.5,
         "unordered": random.random() < 0.5,
