@@ -28,6 +28,7 @@ sys.path.insert(0, os.path.join(os.path.dirname(HERE), "contrib", "gateway"))
 import kills  # noqa: E402
 from gateway import load, rabbit  # noqa: E402
 from gateway.clients import NETWORK_TEST, Client, request, reversal  # noqa: E402
+from gateway.fronts import shard_of  # noqa: E402
 from gateway.issuer import WARMING, Issuer  # noqa: E402
 from gateway.served import FLOW, GATEWAY, WITHOUT, Running, Wrong, awaited, configured, python, wanted  # noqa: E402
 
@@ -118,9 +119,10 @@ def running(bench, fronts=1, machines=1, delay=0.02):
 
 
 def warmed(front):
-    """Asks both shards until the issuer is asked: engines open their pipes at their first request."""
+    """Asks each shard until the issuer is asked: engines open their pipes at their first request."""
     client = Client(front.port)
-    for card in range(900_000, 900_008):
+    for shard in range(SHARDS):
+        card = next(it for it in range(900_000, 900_100) if shard_of(it, SHARDS) == shard)
         for stan in range(1, 60):
             client.send(request(card, stan, sent=WARMING))
             answer = client.receive(2)
