@@ -38,7 +38,7 @@ per_card = 999999999999
 stand_in = 0
 
 [run]
-advices = 8
+advices = 32
 """
 
 
