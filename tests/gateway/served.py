@@ -61,6 +61,11 @@ def awaited(what, found, seconds=SECONDS):
     return got
 
 
+def has_header(program):
+    ran = subprocess.run([program, "run", "--help"], capture_output=True, text=True, timeout=30, check=False)
+    return "--header" in ran.stdout
+
+
 def python():
     """Debian's Python if it is there, since aiohttp, uvloop and pika are its packages; otherwise the one that runs the
     test. GATEWAY_PYTHON in the environment names another one, such as one without these packages."""
