@@ -28,8 +28,20 @@ sys.path.insert(0, os.path.join(os.path.dirname(HERE), "contrib", "gateway"))
 import kills  # noqa: E402
 from gateway import load, rabbit  # noqa: E402
 from gateway.clients import NETWORK_TEST, Client, request, reversal  # noqa: E402
+from gateway.fronts import shard_of  # noqa: E402
 from gateway.issuer import WARMING, Issuer  # noqa: E402
-from gateway.served import FLOW, GATEWAY, WITHOUT, Running, Wrong, awaited, configured, python, wanted  # noqa: E402
+from gateway.served import (
+    FLOW,
+    GATEWAY,
+    WITHOUT,
+    Running,
+    Wrong,
+    awaited,
+    configured,
+    has_header,
+    python,
+    wanted,
+)  # noqa: E402
 
 FAKE = os.path.join(HERE, "gateway", "fake_engine.py")
 # How long a case may take, in seconds.
@@ -118,9 +130,10 @@ def running(bench, fronts=1, machines=1, delay=0.02):
 
 
 def warmed(front):
-    """Asks both shards until the issuer is asked: engines open their pipes at their first request."""
+    """Asks each shard until the issuer is asked: engines open their pipes at their first request."""
     client = Client(front.port)
-    for card in range(900_000, 900_008):
+    for shard in range(SHARDS):
+        card = next(it for it in range(900_000, 900_100) if shard_of(it, SHARDS) == shard)
         for stan in range(1, 60):
             client.send(request(card, stan, sent=WARMING))
             answer = client.receive(2)
@@ -288,6 +301,10 @@ def main():
         return 0
     if not os.path.isfile(program):
         sys.exit(f"there is no program {program}: ./test builds it, or name one by --program")
+    if not has_header(program):
+        print(f"FAILED broker: {program}: run --help shows no --header, which the gateway needs")
+        print("0 passed, 1 failed")
+        return 1
     began, passed, failed = time.monotonic(), 0, 0
     signal.signal(signal.SIGALRM, overdue)
     # (so that the nodes are ended too)

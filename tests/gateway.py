@@ -29,7 +29,7 @@ sys.path.insert(0, os.path.join(os.path.dirname(HERE), "contrib", "gateway"))
 import kills  # noqa: E402
 from cardgate.process import ends_with  # noqa: E402
 from gateway import examples, fronts, pages, rules, units  # noqa: E402
-from gateway.served import Wrong  # noqa: E402
+from gateway.served import Wrong, has_header  # noqa: E402
 
 FAKE = os.path.join(HERE, "gateway", "fake_engine.py")
 # How long a case may take, in seconds, and how many are run at once at most: most of their time they wait.
@@ -94,11 +94,6 @@ def heed():
     """A worker ends with the test, and a case that takes too long is ended."""
     ends_with(os.getppid())()
     signal.signal(signal.SIGALRM, overdue)
-
-
-def has_header(program):
-    ran = subprocess.run([program, "run", "--help"], capture_output=True, text=True, timeout=30, check=False)
-    return "--header" in ran.stdout
 
 
 def main():

@@ -152,7 +152,7 @@ def issuer_away_and_back(bench):
 
 
 def random_clients(bench):
-    """Clients that send whatever comes, in pieces, and go at any moment: the log has no fault, and others are served."""
+    """Clients that send whatever comes, in pieces, and go at any moment: the log has no fault, others are served."""
     chosen = random.Random(11)
     with served(bench, "--open", "8", "--unread", "3000") as (gateway, _):
         for _ in range(60):

@@ -38,7 +38,7 @@ per_card = 999999999999
 stand_in = 0
 
 [run]
-advices = 8
+advices = 32
 """
 
 
@@ -59,6 +59,11 @@ def awaited(what, found, seconds=SECONDS):
             raise Wrong(f"{what}: not within {seconds} seconds")
         time.sleep(0.01)
     return got
+
+
+def has_header(program):
+    ran = subprocess.run([program, "run", "--help"], capture_output=True, text=True, timeout=30, check=False)
+    return "--header" in ran.stdout
 
 
 def python():
