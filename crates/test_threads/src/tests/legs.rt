@@ -122,6 +122,14 @@ fn take_all<
     Ok(())
 }
 
+// (Generic in its input, so that what that has can be named.)
+fn take_from<I: Read + Drop + Send + 'static, R: Runtime + Clock + Copy + Send + 'static>(
+    rt: &R,
+    input: I,
+) -> Result<(), Fail> {
+    take_all::<Brand, I, R>(rt, input)
+}
+
 #[test]
 fn a_thousand_legs_take_each_request_of_an_input_once(rt: HostRuntime) -> Result<(), Fail> {
     let alloc = rt.alloc();
@@ -129,5 +137,5 @@ fn a_thousand_legs_take_each_request_of_an_input_once(rt: HostRuntime) -> Result
     for _ in 0..LEGS {
         text.extend_from_slice(FRAME)?;
     }
-    take_all::<Brand, Cursor<Vec<u8>>, HostRuntime>(&rt, Cursor::new(text))
+    take_from(&rt, Cursor::new(text))
 }
