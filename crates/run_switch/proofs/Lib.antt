@@ -15,6 +15,8 @@ mod Halted
 mod Below
 mod Reporting
 mod LegRounds
+mod InTurn
+mod PassingOver
 mod Leading
 mod Shown
 mod Sayings
