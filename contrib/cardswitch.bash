@@ -32,9 +32,10 @@ _cardswitch() {
     else
         case ${COMP_WORDS[1]} in
             step) words="--flow --prompt --switch --help" ;;
-            asm | list | encode) words="--help" ;;
+            asm | list) words="--help" ;;
             graph) words="--flow --dot --help" ;;
-            decode) words="--mask --help" ;;
+            decode) words="--mask --header --help" ;;
+            encode) words="--header --help" ;;
             recover) words="--flow --config --journal --help" ;;
             check) words="--flow --config --help" ;;
             run) words="--flow --config --journal --log --sessions --header --limit --threads --unordered --trace --stats --help" ;;
