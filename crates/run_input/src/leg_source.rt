@@ -89,6 +89,34 @@ pub struct Heard<'a, B: Input, T> {
     pub end: Option<Result<StreamEnd, ReadError>>,
 }
 
+impl<'a, B: Input, T: Wait> Arrivals<'a, B, T> {
+    /// What came next, outside a leg: the request, if it is one, and what was heard.
+    pub fn hear_one(
+        self,
+        alloc: Global,
+    ) -> Result<(Option<Context>, Heard<'a, B, T>), AllocError>
+        ensures request { IfOk result (λ next. requests_of next.1.arrivals
+            ≡ requests_of self.entry ++ option_to_list next.0) }
+        ensures passed { IfOk result (λ next. passed_of next.1.arrivals
+            ≡ passed_of self.entry + length next.1.passed.items) }
+        ensures end { IfOk result (λ next. IfLast next.1.end next.1.arrivals) }
+    {
+        let mut passed = Vec::with_capacity(alloc, 1)?;
+        let mut end = None;
+        let mut arrivals = self;
+        let request = match arrivals.get() {
+            Some(arrival) => arrival.hand_out(&mut passed, &mut end),
+            None => None,
+        };
+        let heard = Heard {
+            arrivals,
+            passed,
+            end,
+        };
+        Ok((request, heard))
+    }
+}
+
 impl<'a, B: Input, L: Leg, T: Clock> LegSource<'a, B, L, T> {
     /// A leg over these arrivals.
     pub fn begin(

@@ -15,6 +15,7 @@ mod Halted
 mod Below
 mod Reporting
 mod LegRounds
+mod Alone
 mod Leading
 mod Shown
 mod Sayings

@@ -8,8 +8,9 @@
 -- - *Together* (`Rounds.antt`): the requests of a leg, offered in their order and run by all
 --   sessions until nothing is left to do. *Runs*: the same with the responses of its transactions.
 --   *Finishes*: what comes after, which is the shelf, and a cut that may be made.
--- - *Rounds for* some requests: each offered and completed before the next; or, with threads, in
---   legs, in their order. *Rounds toward* them: the same, where the last ones were not reached.
+-- - *Rounds for* some requests: each offered and completed before the next; or, with threads, some
+--   of them like this and others in legs, in their order. *Rounds toward* them: the same, where the
+--   last ones were not reached.
 use Rattle.std.specs.Prelude.{◌≡◌, ◌⊎◌, ℕ, ◌+◌, ⊤, false, List, [], ◌∷◌, ◌++◌, map, drop, Option, Some, None}
 use Rattle.std.specs.Io.KnownBytes.{Appends}
 use Rattle.std.specs.List.{AllByRecursion}
@@ -151,9 +152,8 @@ IsRetry Completed = ⊤
 IsRetry Released = ⊤
 IsRetry _ = ⊥
 
--- with threads: requests are offered in legs alone, and the responses of each leg leave in this order
+-- with threads: requests are offered in turn or in legs, and the responses of each leg leave in this order
 abbrev pub IsOfStream : ResponseOrder → Round → Type 0
-IsOfStream order (Offered x) = ⊥
 IsOfStream order (Streamed own xs) = own ≡ order
 IsOfStream order _ = ⊤
 
@@ -171,13 +171,13 @@ pub record Serves (rounds : List Round) (p : Point) (before : Option (List ℕ))
   pub goes : Goes rounds p bytes lines q
   pub appends : Appends before after bytes
 
--- Rounds that answer these requests: without threads one after the other, with threads in legs, whose responses leave in the order that
--- is given. The history may be cut between them.
+-- Rounds that answer these requests: without threads one after the other, with threads one after the other or in legs, whose responses
+-- leave in the order that is given. The history may be cut between them.
 abbrev pub RoundsFor : Option ResponseOrder → List Pairs → List Round → Type 0
 RoundsFor None requests rounds = untrimmed rounds ≡ answering requests
 RoundsFor (Some order) requests rounds = (offered_in rounds ≡ requests) × AllByRecursion (IsOfStream order) rounds
 
--- rounds on the way to that: with threads, legs of the last requests may be missing
+-- rounds on the way to that: with threads, the last requests may be missing
 abbrev pub RoundsToward : Option ResponseOrder → List Pairs → List Round → Type 0
 RoundsToward None requests rounds = untrimmed rounds ≡ answering requests
 RoundsToward (Some order) requests rounds = (later : List Pairs) × (requests ≡ offered_in rounds ++ later) × AllByRecursion (IsOfStream order) rounds

@@ -96,6 +96,12 @@ pub record HaltsHeard (header : ℕ) (order : ResponseOrder) (input : Option (Li
   pub requests_are : requests header frames ≡ requests_of got ++ later
   pub halts : HaltsToward (Some order) later p before after
 
+-- these requests were answered in turn, and then the queue and the shelf were emptied, up to an error
+pub record HaltsInTurn (requests : List Pairs) (p : Point) (before after : Option (List ℕ)) : Type 0 where
+  pub retries : List Round
+  pub are_retries : AllByRecursion IsRetry retries
+  pub halts : Halts (answering requests ++ retries) p before after
+
 -- requests at the beginning of an input were answered, up to an error
 pub record StopsWithin (header : ℕ) (step : AdviceStep) (threads : Option ResponseOrder) (input : Option (List ℕ)) (x : Stage) (after : Option (List ℕ)) : Type 0 where
   pub frames : List (List ℕ)

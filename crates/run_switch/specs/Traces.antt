@@ -188,7 +188,20 @@ pub record Finishes (passed : ℕ) (p : Point) (before : Option (List ℕ)) (a :
   pub drains : DrainsAll (all_answered p) before noted drained after then
   pub cuts : Cuts drained then q b
 
--- A leg: what came since was answered, or passed over.
+-- What came alone was answered in turn, and this many messages passed over; then the queue and the shelf are emptied, and the history may be
+-- cut.
+pub record InTurn (requests : List Pairs) (passed : ℕ) (p : Point) (before : Option (List ℕ)) (a : Log) (q : Point) (after : Option (List ℕ)) (b : Log) :
+    Type 0 where
+  pub answered : Point
+  pub given : Option (List ℕ)
+  pub noted : Log
+  pub reports : Reports (answering requests) passed p before a answered given noted
+  pub drained : Point
+  pub then : Log
+  pub drains : DrainsAll answered given noted drained after then
+  pub cuts : Cuts drained then q b
+
+-- A leg, or what came alone: what came since was answered, or passed over.
 pub record Answered (order : ResponseOrder) (before : List Arrival) (p : Point) (from : Option (List ℕ)) (a : Log) (after : List Arrival) (q : Point)
     (to : Option (List ℕ)) (b : Log) : Type 0 where
   pub requests : List Pairs

@@ -32,6 +32,8 @@ use tx_pool::Streams;
 pub(crate) struct LegPlan<'a> {
     /// The order in which its responses leave.
     pub(crate) order: ResponseOrder,
+    /// Whether a request may wait for a host.
+    pub(crate) asks_hosts: bool,
     /// When it ends though requests come.
     pub(crate) limits: LegLimits,
     pub(crate) watch: &'a Watch,
@@ -179,8 +181,8 @@ fn lead_leg<
     }
 }
 
-// Writes a line for each of these messages.
-fn pass_over<T: Clock, E: Write>(
+/// Writes a line for each of these messages.
+pub(crate) fn pass_over<T: Clock, E: Write>(
     edge: &mut Edge<'_, T, E>,
     list: &[PassedOver],
 ) -> Result<(), ServeError>

@@ -145,6 +145,7 @@
 #![tactic(auto)]
 
 mod advices;
+mod alone;
 mod defaults;
 mod edge;
 mod error;

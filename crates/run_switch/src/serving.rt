@@ -32,9 +32,9 @@ use crate::error::ServeError;
 use crate::progress::Progress;
 use crate::reporter::write_lines;
 use crate::saying::unfinished_in;
-use crate::setup::{NamedLink, Setup, SwitchLink, query_name, sender_over};
+use crate::setup::{NamedLink, Setup, SwitchLink, asks_hosts, query_name, sender_over};
 use crate::stream::answer_input;
-use crate::streaming::answer_stream;
+use crate::streaming::{Stream, answer_stream};
 use crate::switch::Switch;
 use crate::unsuited::cause_of;
 use cli_io::IoError;
@@ -163,9 +163,9 @@ impl<S: Alter> Switch<S> {
 }
 
 impl<S: Alter + Drop> Switch<S> {
-    // Answers the requests of an input in legs, by all sessions at once, then runs what is on the shelf, and sends
-    // the stored advices. The lines of the trace are written after each leg and at the end; the numbers of the run
-    // come last.
+    // Answers the requests of an input in legs, by all sessions at once, or in turn where one comes alone, then runs what
+    // is on the shelf, and sends the stored advices. The lines of the trace are written after each leg and at the end; the
+    // numbers of the run come last.
     fn answer_together<
         T: Threads + Wait + Clock + Clone + Drop + Send + Sync + 'static,
         L: Link,
@@ -176,29 +176,28 @@ impl<S: Alter + Drop> Switch<S> {
         self,
         edge: &mut Edge<'_, T, E>,
         advisor: &mut Advisor<L>,
-        header: usize,
-        input: R,
-        order: ResponseOrder,
+        stream: Stream<R>,
         out: &mut O,
     ) -> Result<StreamEnd, ServeError>
         requires rest { IsAtRest (point_of S.Store self) }
         requires empty { waits (engine_of self.plant) ≡ [] }
         ensures serves { IfOk result (λ end. (frames : List (List ℕ))
-            × ReadTo end (R.remaining input) frames
-            × (rounds : List Round) × RoundsFor (Some order) (requests header frames) rounds
+            × ReadTo end (R.remaining stream.input) frames
+            × (rounds : List Round)
+            × RoundsFor (Some stream.order) (requests stream.header frames) rounds
             × (all : ServesAll (SendsAdvice L.sends L.receives L.starves (Unit {0})) rounds
             (point_of S.Store self) advisor.old (O.contents out.old) (O.contents out.new))
-            × TellsAll (all_lines all) (passed_over header frames) all.end
+            × TellsAll (all_lines all) (passed_over stream.header frames) all.end
             (log_of E.contents edge.old.stderr) (log_of E.contents edge.new.stderr)) }
-        ensures stops { OnErr result (ServesSome header
-            (SendsAdvice L.sends L.receives L.starves (Unit {0})) (Some order) (R.remaining input)
+        ensures stops { OnErr result (ServesSome stream.header
+            (SendsAdvice L.sends L.receives L.starves (Unit {0}))
+            (Some stream.order) (R.remaining stream.input)
             (point_of S.Store self) advisor.old (O.contents out.old) (O.contents out.new)) }
     {
         let mut switch = self;
         switch.cut_traced(edge)?;
-        let served = answer_stream::<S, T, Brand, L, R, O, E>(
-            edge, switch, advisor, input, header, order, out,
-        )?;
+        let served =
+            answer_stream::<S, T, Brand, L, R, O, E>(edge, switch, advisor, stream, out)?;
         let (mut switch, end) = served;
         let closed = switch.close(edge, advisor, out);
         let traced = edge.stderr.trace(edge.alloc, switch.engine());
@@ -244,6 +243,7 @@ struct Over<S: Alter, R: Read, L: Link> {
     advices: usize,
     sessions: usize,
     threads: Option<ResponseOrder>,
+    asks_hosts: bool,
 }
 
 impl<S: Alter + Drop, R: Read + Drop, L: Link> Drop for Over<S, R, L> {
@@ -256,6 +256,7 @@ impl<S: Alter + Drop, R: Read + Drop, L: Link> Drop for Over<S, R, L> {
             advices: _,
             sessions: _,
             threads: _,
+            asks_hosts: _,
         } = self;
     }
 }
@@ -296,6 +297,7 @@ impl<S: Alter + Drop, R: Read + Drop + Send + 'static, L: Link> Over<S, R, L> {
             advices,
             sessions,
             threads,
+            asks_hosts,
         } = self;
         let alloc = edge.alloc;
         let plant = match Plant::new(alloc, code, journal, stations, sessions) {
@@ -317,6 +319,7 @@ impl<S: Alter + Drop, R: Read + Drop + Send + 'static, L: Link> Over<S, R, L> {
             input,
             header,
             threads,
+            asks_hosts,
         };
         begun.go_on(edge, out)
     }
@@ -330,6 +333,7 @@ struct Begun<S: Alter, R: Read, L: Link> {
     input: Option<R>,
     header: usize,
     threads: Option<ResponseOrder>,
+    asks_hosts: bool,
 }
 
 // Written out, so that no caller proves again how its parts are dropped.
@@ -342,6 +346,7 @@ impl<S: Alter + Drop, R: Read + Drop, L: Link> Drop for Begun<S, R, L> {
             input: _,
             header: _,
             threads: _,
+            asks_hosts: _,
         } = self;
     }
 }
@@ -377,6 +382,7 @@ impl<S: Alter + Drop, R: Read + Drop + Send + 'static, L: Link> Begun<S, R, L> {
             input,
             header,
             threads,
+            asks_hosts,
         } = self;
         let Some(input) = input else {
             print(edge.alloc, switch.engine(), out)?;
@@ -386,7 +392,13 @@ impl<S: Alter + Drop, R: Read + Drop + Send + 'static, L: Link> Begun<S, R, L> {
         let mut advisor = advisor;
         edge.stderr.say_ready(edge.alloc, unfinished);
         if let Some(order) = threads {
-            return switch.answer_together(edge, &mut advisor, header, input, order, out);
+            let stream = Stream {
+                input,
+                header,
+                order,
+                asks_hosts,
+            };
+            return switch.answer_together(edge, &mut advisor, stream, out);
         }
         let served = switch.answer_in_turn(edge, &mut advisor, header, input, out);
         let traced = edge.stderr.trace(edge.alloc, switch.engine());
@@ -427,7 +439,8 @@ fn named(
 /// then ends as it would after a whole input.
 ///
 /// With threads requests are offered as they come, and each response is written once its transaction is in the journal:
-/// by rising ids, or as the transactions end. The sessions run in legs. A leg ends once nothing is under way and nothing
+/// by rising ids, or as the transactions end. Where no link reaches a host, a request that comes alone is answered by session 0
+/// as without threads. Otherwise the sessions run in legs. A leg ends once nothing is under way and nothing
 /// comes, or with its history; then the shelf is run, the lines of the trace are written, and stored advices are sent.
 /// The lines of a leg that was given up are lost.
 ///
@@ -503,6 +516,7 @@ pub fn run<
         advices,
         sessions,
         threads,
+        asks_hosts: asks_hosts(&queried),
     };
     // (All at once: with a return for each, each would prove how everything else is dropped.)
     let (Ok(check), Ok(limits), Ok(route), Ok(reverse)) = (

@@ -59,6 +59,16 @@ pub(crate) fn query_name(alloc: Global, link: &str) -> Result<String, AllocError
     format!(in alloc; "query_{link}")
 }
 
+/// Whether one of these links reaches a host, whose answer may have to be waited for.
+pub(crate) fn asks_hosts(links: &[NamedLink<SwitchLink>]) -> bool {
+    for named in links {
+        if let IssuerLink::Host(_) = &named.link {
+            return true;
+        }
+    }
+    false
+}
+
 /// What sends stored advices, by copies of these routes over these links.
 pub(crate) fn sender_over<L: Link>(
     alloc: Global,

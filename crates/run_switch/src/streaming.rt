@@ -1,14 +1,16 @@
-//! Requests answered in legs, as they come.
+//! Requests answered as they come: in legs, or in turn where one comes alone.
 
 ghost use Rattle.std.specs.Prelude.{◌≡◌, ℕ, List, IfOk, OnErr, Some};
 ghost use Rattle.sw_issuers.specs.Sending.{SendsAdvice};
 ghost use Rattle.run_input.specs.Requests.{ReadTo};
 ghost use Rattle.run_switch.specs.Legs.{AdvancesFor, stage};
+ghost use Rattle.run_input.specs.Arrivals.{IfLast};
 ghost use Rattle.run_switch.specs.Points.{IsReady, point_of};
-ghost use Rattle.run_switch.specs.Stopped.{StopsWithin};
-ghost use Rattle.run_switch.specs.Traces.{log_of};
+ghost use Rattle.run_switch.specs.Stopped.{HaltsHeard, StopsWithin};
+ghost use Rattle.run_switch.specs.Traces.{Answered, log_of};
 
 use crate::advices::{Advisor, send_between};
+use crate::alone::answer_alone;
 use crate::edge::Edge;
 use crate::error::ServeError;
 use crate::leg::{LegPlan, answer_leg};
@@ -45,7 +47,65 @@ fn limits_of<S: Alter, T: Clock, L: Link, E: Write>(
     }
 }
 
-/// Answers all requests of an input, in legs. Stored advices are sent between two legs.
+/// The input of a run with threads, and how it is answered.
+pub(crate) struct Stream<R: Read> {
+    pub(crate) input: R,
+    /// How many bytes the header before each message of a frame has.
+    pub(crate) header: usize,
+    /// The order in which the responses of a leg leave.
+    pub(crate) order: ResponseOrder,
+    /// Whether a request may wait for a host. If not, one that comes alone is answered in turn: so it takes no longer than
+    /// without threads. If so, it is answered in a leg, and others are answered while it waits.
+    pub(crate) asks_hosts: bool,
+}
+
+// Written out, so that no caller proves again how its parts are dropped.
+impl<R: Read + Drop> Drop for Stream<R> {
+    fn drop(self) {
+        let Stream {
+            input: _,
+            header: _,
+            order: _,
+            asks_hosts: _,
+        } = self;
+    }
+}
+
+// Answers what has come: in turn if it came alone and asks no host, otherwise in a leg.
+fn answer_arrivals<
+    'a,
+    S: Alter + Drop,
+    B: Input + Send + Sync,
+    T: Threads + Wait + Clock + Sync,
+    O: Write,
+    E: Write,
+>(
+    edge: &mut Edge<'a, T, E>,
+    switch: Switch<S>,
+    arrivals: Arrivals<'a, B, T>,
+    plan: LegPlan<'_>,
+    out: &mut O,
+) -> Result<(Switch<S>, Heard<'a, B, T>), ServeError>
+    requires ready { IsReady (point_of S.Store switch) }
+    ensures answered { IfOk result (λ done. Answered plan.entry.order
+        arrivals.entry (point_of S.Store switch) (O.contents out.old)
+        (log_of E.contents edge.old.stderr)
+        done.1.arrivals (point_of S.Store done.0) (O.contents out.new)
+        (log_of E.contents edge.new.stderr)) }
+    ensures ready { IfOk result (λ done. IsReady (point_of S.Store done.0)) }
+    ensures end { IfOk result (λ done. IfLast done.1.end done.1.arrivals) }
+    ensures halts { OnErr result (HaltsHeard B.header plan.entry.order B.input
+        arrivals.entry
+        (point_of S.Store switch) (O.contents out.old) (O.contents out.new)) }
+{
+    if plan.asks_hosts || arrivals.waiting() > 1 {
+        answer_leg(edge, switch, arrivals, plan, out)
+    } else {
+        answer_alone(edge, switch, arrivals, plan, out)
+    }
+}
+
+/// Answers all requests of an input, in legs or in turn. Stored advices are sent between two legs.
 pub(crate) fn answer_stream<
     S: Alter + Drop,
     T: Threads + Wait + Clock + Clone + Drop + Send + Sync + 'static,
@@ -58,27 +118,31 @@ pub(crate) fn answer_stream<
     edge: &mut Edge<'_, T, E>,
     switch: Switch<S>,
     advisor: &mut Advisor<L>,
-    input: R,
-    header: usize,
-    order: ResponseOrder,
+    stream: Stream<R>,
     out: &mut O,
 ) -> Result<(Switch<S>, StreamEnd), ServeError>
     requires ready { IsReady (point_of S.Store switch) }
-    requires input { R.remaining input ≡ B.input }
-    requires header { header ≡ B.header }
+    requires input { R.remaining stream.input ≡ B.input }
+    requires header { stream.header ≡ B.header }
     ensures serves { IfOk result (λ served. (frames : List (List ℕ))
         × ReadTo served.1 B.input frames
-        × AdvancesFor B.header (SendsAdvice L.sends L.receives L.starves (Unit {0})) (Some order) frames
+        × AdvancesFor B.header (SendsAdvice L.sends L.receives L.starves (Unit {0})) (Some stream.order) frames
         (stage advisor.old (point_of S.Store switch) (O.contents out.old))
         (log_of E.contents edge.old.stderr)
         (stage advisor.new (point_of S.Store served.0) (O.contents out.new))
         (log_of E.contents edge.new.stderr)) }
     ensures ready { IfOk result (λ served. IsReady (point_of S.Store served.0)) }
     ensures stops { OnErr result (StopsWithin B.header
-        (SendsAdvice L.sends L.receives L.starves (Unit {0})) (Some order) B.input
+        (SendsAdvice L.sends L.receives L.starves (Unit {0})) (Some stream.order) B.input
         (stage advisor.old (point_of S.Store switch) (O.contents out.old))
         (O.contents out.new)) }
 {
+    let Stream {
+        input,
+        header,
+        order,
+        asks_hosts,
+    } = stream;
     let watch = Arc::new(edge.alloc, Watch::new())?;
     let mut arrivals = Arrivals::<B, T>::open(edge.rt, edge.alloc, input, header, &watch)?;
     let mut switch = switch;
@@ -87,10 +151,11 @@ pub(crate) fn answer_stream<
         let limits = limits_of(edge, &switch, advisor);
         let plan = LegPlan {
             order,
+            asks_hosts,
             limits,
             watch: &watch,
         };
-        let led = answer_leg(edge, switch, arrivals, plan, out)?;
+        let led = answer_arrivals(edge, switch, arrivals, plan, out)?;
         let (after, heard) = led;
         switch = after;
         let Heard {

@@ -9,7 +9,7 @@ answer_stream-requires-clause-ready g c = λ κs within. c.in_ok-cut_traced.ensu
 pub returns-clause-serves : goal.returns-clause-serves
 returns-clause-serves g c =
     let (frames, read, serves) = c.in_ok-served.ensures.serves in
-    let (all, end, tells) = all_served c.args.header _ (Some c.args.order) frames _ _ _ _ _ _ _ _ _ _ _ _ _ _ c.in_ok-cut_traced.ensures.cuts c.in_ok-cut_traced.ensures.ready serves
+    let (all, end, tells) = all_served c.args.stream.header _ (Some c.args.stream.order) frames _ _ _ _ _ _ _ _ _ _ _ _ _ _ c.in_ok-cut_traced.ensures.cuts c.in_ok-cut_traced.ensures.ready serves
     c.in_ok-closed.ensures.closes in
     let (whole, last) = told_last _ _ _ _ _ _ _ _ _ _ _ _ _ all end c.engine.ensures tells c.in_ok-traced.ensures.tells c.show.ensures.shows in
     (frames, read, serves.rounds, serves.answers, whole, last)
