@@ -10,7 +10,7 @@ use Rattle.run_switch.specs.Ran.{Ran, all_lines}
 use Rattle.run_reports.specs.declared.Words.{Words}
 use Rattle.run_switch.specs.Shown.{TellsRun, unfinished_in}
 use Rattle.run_switch.specs.Traces.{Log}
-use Rattle.run_input.specs.Requests.{ReadTo, passed_over, requests}
+use Rattle.run_input.specs.Requests.{ReadTo, passed_over, readings}
 use Rattle.run_switch.specs.Rounds.{Round, RoundsFor}
 use Rattle.run_input.specs.declared.frames.StreamEnd.{StreamEnd}
 use Rattle.run_input.specs.declared.frames.StreamEnd.TheVariants.{Whole, BadLength, Truncated, Unread}
@@ -20,7 +20,7 @@ use Rattle.cardswitch.specs.Runs.{Served, link_step}
 abbrev RanTo : ℕ → Option ResponseOrder → Flow → ℕ → Seen → PlainSender → ℕ → Option (List ℕ) → Option (List ℕ) → Option (List ℕ) → Option Words → Log → Log →
     StreamEnd → Type 0
 RanTo header threads f n j sender most unread before after words k l end =
-    (frames : List (List ℕ)) × ReadTo end unread frames × (rounds : List Round) × RoundsFor threads (requests header frames) rounds
+    (frames : List (List ℕ)) × ReadTo end unread frames × (rounds : List Round) × RoundsFor threads (readings header frames) rounds
     × (ran : Ran f n j link_step sender most rounds before after)
     × TellsRun words (unfinished_in ran.begins.view) (all_lines ran.serves) (passed_over header frames) ran.serves.end k l
 

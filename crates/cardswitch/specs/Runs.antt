@@ -19,7 +19,7 @@ use Rattle.cli_options.specs.declared.choice.StatsLines.TheVariants.{AtEnd, Ever
 use Rattle.run_responses.specs.declared.sink.ResponseOrder.{ResponseOrder}
 use Rattle.run_switch.specs.Advices.{AdviceStep}
 use Rattle.run_switch.specs.Ran.{Printed, Ran}
-use Rattle.run_input.specs.Requests.{ReadTo, requests}
+use Rattle.run_input.specs.Requests.{ReadTo, readings}
 use Rattle.run_switch.specs.Rounds.{Round, RoundsFor}
 use Rattle.run_switch.specs.declared.reporter.LineForm.{LineForm}
 use Rattle.run_switch.specs.declared.reporter.LineForm.TheVariants as form
@@ -65,7 +65,7 @@ pub record Served (header : ℕ) (threads : Option ResponseOrder) (flow : Flow) 
   pub frames : List (List ℕ)
   pub reads : ReadTo Whole unread frames
   pub rounds : List Round
-  pub answers : RoundsFor threads (requests header frames) rounds
+  pub answers : RoundsFor threads (readings header frames) rounds
   pub ran : Ran flow sessions j link_step sender advices rounds before after
 
 -- `run` has answered the requests of its input by this flow and this configuration, over the journal that it found, set up as

@@ -16,7 +16,7 @@ use Rattle.run_switch.specs.Legs.{Advances, Leg, Legs, Stage, stage}
 use Rattle.run_switch.specs.Lines.{Line, lines_in}
 use Rattle.run_switch.specs.Points.{Point, all_answered, world_at}
 use Rattle.run_switch.specs.Ran.{Begins, Ran, ServesAll}
-use Rattle.run_switch.specs.Rounds.{Acts, Completed, Completes, Does, Goes, MayCut, Offered, Released, Round, Runs, Serves, Streamed, Trimmed}
+use Rattle.run_switch.specs.Rounds.{Acts, Completed, Completes, Does, Goes, MayCut, Offered, Released, Returned, Round, Runs, Serves, Streamed, Trimmed}
 use Rattle.tx_seats.proofs.Drives.{all_driven_append}
 
 pub record Path (p q : Whole) : Type 0 where
@@ -70,6 +70,7 @@ goes_path (Offered x ∷ rs) p q bytes lines (ready, o, w, does, more) = path_th
     (goes_path rs w q bytes lines more)
 goes_path (Completed ∷ rs) p q bytes lines (w, first, later, cut, others, completes, more, all, these) =
     path_then p.plant w.plant q.plant (completes_path p w first cut completes) (goes_path rs w q later others more)
+goes_path (Returned h ∷ rs) p q bytes lines (first, later, framed, more, all) = goes_path rs p q later lines more
 goes_path (Released ∷ rs) p q bytes lines (o, w, does, more) =
     path_then p.plant w.plant q.plant (does_path turn.Release o p w does) (goes_path rs w q bytes lines more)
 goes_path (Streamed order xs ∷ rs) p q bytes lines (ready, w, first, later, runs, more, all) =

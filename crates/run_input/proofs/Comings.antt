@@ -1,6 +1,6 @@
 -- What an input gives, message by message.
 -- for: reader::put_messages, reader::read_all, arrival::arrival_of
-use Rattle.std.proofs.Common.{◌≡◌, ℕ, ◌+◌, List, [], ◌∷◌, ◌++◌, length, Option, Some, None, Result, Ok, Err, refl, sym, ap, ◌∙◌, append_assoc, append-nil, arith, zero-add, ◌<◌, drop, get_or, subst}
+use Rattle.std.proofs.Common.{◌≡◌, ℕ, List, [], ◌∷◌, ◌++◌, length, map, Option, Some, None, Result, Ok, Err, refl, sym, ap, ◌∙◌, append_assoc, append-nil, ◌<◌, ◌+◌, drop, get_or, subst}
 use Rattle.std.proofs.lemmas.Bool.{false≢true}
 use Rattle.std.proofs.lemmas.List.{drop_more}
 use Rattle.std.specs.Global.{Vec}
@@ -15,21 +15,21 @@ use Rattle.run_input.specs.declared.arrival.Arrival.TheVariants.{Ended, Passed, 
 use Rattle.run_input.specs.declared.arrival.PassedOver.{PassedOver}
 use Rattle.run_input.specs.declared.arrival.ReadError.{ReadError}
 use Rattle.run_input.specs.declared.frames.StreamEnd.{StreamEnd}
-use Rattle.run_input.specs.Requests.{EndsAs, ReadsOn, message_in, passed_over, request_of, requests}
-use Rattle.run_input.specs.Arrivals.{AreMessages, Came, CameSo, EndWith, IfLast, IsArrivalOf, end_after, passed_of, requests_of}
-use Rattle.run_input.proofs.Readings.{nothing_read, one_passed, passed_over_more, requests_more, typed_passed, typed_request, is_none}
+use Rattle.run_input.specs.Requests.{EndsAs, Readable, Reading, ReadsOn, Unreadable, header_of, headers_in, message_in, readings, request_of, requests_in}
+use Rattle.run_input.specs.Arrivals.{AreMessages, Came, CameSince, CameSo, EndWith, IfLast, IsArrivalOf, end_after, headers_of, readings_of, requests_of}
+use Rattle.run_input.proofs.Readings.{headers_in_append, nothing_read, readings_more, requests_in_append, typed_reading, unread_reading}
+
+pub readings_of_append : (xs ys : List Arrival) → readings_of (xs ++ ys) ≡ readings_of xs ++ readings_of ys
+readings_of_append [] ys = refl
+readings_of_append (Request x ∷ xs) ys = ap (λ (l : List Reading). Readable x ∷ l) (readings_of_append xs ys)
+readings_of_append (Passed p ∷ xs) ys = ap (λ (l : List Reading). Unreadable p.header.items ∷ l) (readings_of_append xs ys)
+readings_of_append (Ended r ∷ xs) ys = readings_of_append xs ys
 
 pub requests_of_append : (xs ys : List Arrival) → requests_of (xs ++ ys) ≡ requests_of xs ++ requests_of ys
-requests_of_append [] ys = refl
-requests_of_append (Request x ∷ xs) ys = ap (λ (l : List Pairs). x ∷ l) (requests_of_append xs ys)
-requests_of_append (Passed p ∷ xs) ys = requests_of_append xs ys
-requests_of_append (Ended r ∷ xs) ys = requests_of_append xs ys
+requests_of_append xs ys = ap requests_in (readings_of_append xs ys) ∙ requests_in_append (readings_of xs) (readings_of ys)
 
-pub passed_of_append : (xs ys : List Arrival) → passed_of (xs ++ ys) ≡ passed_of xs + passed_of ys
-passed_of_append [] ys = sym (zero-add (passed_of ys))
-passed_of_append (Request x ∷ xs) ys = passed_of_append xs ys
-passed_of_append (Passed p ∷ xs) ys = let ih = passed_of_append xs ys in omega (arith, ih)
-passed_of_append (Ended r ∷ xs) ys = passed_of_append xs ys
+pub headers_of_append : (xs ys : List Arrival) → headers_of (xs ++ ys) ≡ headers_of xs ++ headers_of ys
+headers_of_append xs ys = ap headers_in (readings_of_append xs ys) ∙ headers_in_append (readings_of xs) (readings_of ys)
 
 -- messages
 
@@ -55,16 +55,15 @@ messages_then fact (Ended q ∷ xs) r m e = absurd m
 pub request_arrival : (n : ℕ) (frame : List ℕ) (x : Pairs) → is_some (type_of (read (message_in n frame))) ≡ true → x ≡ request_of n frame
     → IsArrivalOf n frame (Request x)
 request_arrival n frame x typed is = record {
-  request = ap (λ (p : Pairs). p ∷ []) is ∙ sym (typed_request n (read (message_in n frame)) frame typed);
-  passed = sym (typed_passed (read (message_in n frame)) typed);
+  reading = ap (λ (p : Pairs). Readable p ∷ []) is ∙ ap (λ (r : Reading). r ∷ []) (sym (typed_reading n (read (message_in n frame)) frame typed));
   is_message = tt;
 }
 
--- one that cannot be read is passed over
-pub passed_arrival : (n : ℕ) (frame : List ℕ) (e : DecodeError) (p : PassedOver) → read (message_in n frame) ≡ Err e → IsArrivalOf n frame (Passed p)
-passed_arrival n frame e p is = record {
-  request = sym (is_none n (read (message_in n frame)) e frame is);
-  passed = sym (one_passed (read (message_in n frame)) e is);
+-- one that cannot be read is passed over, with its header
+pub passed_arrival : (n : ℕ) (frame : List ℕ) (e : DecodeError) (p : PassedOver) → read (message_in n frame) ≡ Err e → p.header.items ≡ header_of n frame
+    → IsArrivalOf n frame (Passed p)
+passed_arrival n frame e p is header = record {
+  reading = ap (λ (h : List ℕ). Unreadable h ∷ []) header ∙ ap (λ (r : Reading). r ∷ []) (sym (unread_reading n (read (message_in n frame)) e frame is));
   is_message = tt;
 }
 
@@ -74,8 +73,7 @@ pub so_none : (n : ℕ) (input : Option (List ℕ)) (s : State) → s ≡ blank 
 so_none n input s same = record {
   frames = [];
   reads = nothing_read input s same;
-  requests_are = refl;
-  passed_are = refl;
+  readings_are = refl;
   are_messages = tt;
 }
 
@@ -88,8 +86,7 @@ pub so_read : (n : ℕ) (input left then : Option (List ℕ)) (s t : State) (got
 so_read n input left then s t got more so reads = record {
   frames = so.frames;
   reads = reads input so.frames (rw append-nil at so.reads);
-  requests_are = so.requests_are;
-  passed_are = so.passed_are;
+  readings_are = so.readings_are;
   are_messages = so.are_messages;
 }
 
@@ -98,12 +95,9 @@ pub so_put : (n : ℕ) (input left : Option (List ℕ)) (s : State) (got : List 
 so_put n input left s got message more a so is = record {
   frames = so.frames ++ message ∷ [];
   reads = rw append_assoc so.reads;
-  requests_are =
-      requests_of_append got (a ∷ []) ∙ (ap (λ (l : List Pairs). l ++ requests_of (a ∷ [])) so.requests_are
-      ∙ (ap (λ (l : List Pairs). requests n so.frames ++ l) is.request ∙ sym (requests_more n so.frames message)));
-  passed_are =
-      passed_of_append got (a ∷ []) ∙ (ap (λ (k : ℕ). k + passed_of (a ∷ [])) so.passed_are
-      ∙ (ap (λ (k : ℕ). passed_over n so.frames + k) is.passed ∙ sym (passed_over_more n so.frames message)));
+  readings_are =
+      readings_of_append got (a ∷ []) ∙ (ap (λ (l : List Reading). l ++ readings_of (a ∷ [])) so.readings_are
+      ∙ (ap (λ (l : List Reading). readings n so.frames ++ l) is.reading ∙ sym (readings_more n so.frames message)));
   are_messages = messages_append got (a ∷ []) so.are_messages is.is_message;
 }
 
@@ -130,8 +124,7 @@ came_so n input left s got more so = record {
   left = left;
   state = s;
   reads = so.reads;
-  requests_are = so.requests_are;
-  passed_are = so.passed_are;
+  readings_are = so.readings_are;
   ends = messages_end _ got so.are_messages;
 }
 
@@ -147,8 +140,7 @@ came_failed n input left s got more e so = record {
   left = left;
   state = s;
   reads = so.reads;
-  requests_are = requests_of_append got (Ended (Err e) ∷ []) ∙ (append-nil (requests_of got) ∙ so.requests_are);
-  passed_are = let sum = passed_of_append got (Ended (Err e) ∷ []) in let is = so.passed_are in omega (arith, sum, is);
+  readings_are = readings_of_append got (Ended (Err e) ∷ []) ∙ (append-nil (readings_of got) ∙ so.readings_are);
   ends = messages_then _ got (Err e) so.are_messages refl;
 }
 
@@ -166,8 +158,7 @@ came_ended n input left s got end so ends = record {
   left = left;
   state = s;
   reads = so.reads;
-  requests_are = requests_of_append got (Ended (Ok end) ∷ []) ∙ (append-nil (requests_of got) ∙ so.requests_are);
-  passed_are = let sum = passed_of_append got (Ended (Ok end) ∷ []) in let is = so.passed_are in omega (arith, sum, is);
+  readings_are = readings_of_append got (Ended (Ok end) ∷ []) ∙ (append-nil (readings_of got) ∙ so.readings_are);
   ends = messages_then _ got (Ok end) so.are_messages (refl, (refl, ends));
 }
 
@@ -185,8 +176,13 @@ pub requests_after : (got new : List Arrival) (a : Arrival) (answer : List Pairs
 requests_after got new a answer is at =
     ap requests_of is ∙ (requests_of_append got (a ∷ []) ∙ ap (λ (l : List Pairs). requests_of got ++ l) (sym at))
 
-pub passed_after : (before old fresh : ℕ) (got new : List Arrival) (a : Arrival) → passed_of got ≡ before + old → new ≡ got ++ a ∷ []
-    → fresh ≡ old + passed_of (a ∷ []) → passed_of new ≡ before + fresh
-passed_after before old fresh got new a so is more =
-    let whole : passed_of new ≡ passed_of got + passed_of (a ∷ []) = ap passed_of is ∙ passed_of_append got (a ∷ []) in
-    omega arith
+pub since_none : (before : List Arrival) → CameSince before before []
+since_none before = record { came = []; came_are = sym (append-nil before); headers_are = refl }
+
+pub since_after : (before got new : List Arrival) (a : Arrival) (old fresh : List PassedOver) → CameSince before got old → new ≡ got ++ a ∷ []
+    → map (λ p. p.header.items) fresh ≡ map (λ p. p.header.items) old ++ headers_of (a ∷ []) → CameSince before new fresh
+since_after before got new a old fresh since is more = record {
+  came = since.came ++ a ∷ [];
+  came_are = is ∙ (ap (λ (l : List Arrival). l ++ a ∷ []) since.came_are ∙ append_assoc before since.came (a ∷ []));
+  headers_are = more ∙ (ap (λ (l : List (List ℕ)). l ++ headers_of (a ∷ [])) since.headers_are ∙ sym (headers_of_append since.came (a ∷ [])));
+}

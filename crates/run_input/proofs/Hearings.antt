@@ -1,44 +1,24 @@
 -- What is known of an input from what came of it.
-use Rattle.std.proofs.Common.{◌≡◌, ℕ, ◌+◌, List, [], ◌∷◌, ◌++◌, Option, Result, Ok, Err, sym, ap, ◌∙◌, append_assoc, append-nil, add-zero, subst}
-use Rattle.sw_context.specs.Pairs.{Pairs}
+use Rattle.std.proofs.Common.{◌≡◌, ℕ, List, [], ◌∷◌, ◌++◌, Option, Result, Ok, Err, sym, ap, ◌∙◌, append_assoc, append-nil, subst}
 use Rattle.tx_intake.specs.Rule.{LawfulAfter}
 use Rattle.run_input.specs.declared.arrival.Arrival.{Arrival}
 use Rattle.run_input.specs.declared.arrival.Arrival.TheVariants.{Ended, Passed, Request}
-use Rattle.run_input.specs.declared.arrival.PassedOver.{PassedOver}
 use Rattle.run_input.specs.declared.arrival.ReadError.{ReadError}
 use Rattle.run_input.specs.declared.frames.StreamEnd.{StreamEnd}
-use Rattle.run_input.specs.Requests.{EndsAs, Reads, requests}
-use Rattle.run_input.specs.Arrivals.{Came, EndWith, Heard, HeardAll, HeardTo, IsLast, passed_of, requests_of}
+use Rattle.run_input.specs.Requests.{EndsAs, Reading, Reads, readings}
+use Rattle.run_input.specs.Arrivals.{Came, EndWith, Heard, HeardAll, HeardTo, IsLast, readings_of, requests_of}
 use Rattle.run_input.proofs.Comings as comings
-use Rattle.run_input.proofs.Readings.{requests_append}
+use Rattle.run_input.proofs.Readings.{readings_append}
 
 -- what came, and then more
+
+pub readings_of_append : (xs ys : List Arrival) → readings_of (xs ++ ys) ≡ readings_of xs ++ readings_of ys
+readings_of_append xs ys = comings.readings_of_append xs ys
 
 pub requests_of_append : (xs ys : List Arrival) → requests_of (xs ++ ys) ≡ requests_of xs ++ requests_of ys
 requests_of_append xs ys = comings.requests_of_append xs ys
 
-pub passed_of_append : (xs ys : List Arrival) → passed_of (xs ++ ys) ≡ passed_of xs + passed_of ys
-passed_of_append xs ys = comings.passed_of_append xs ys
-
-pub requests_of_request : (xs : List Arrival) (x : Pairs) → requests_of (xs ++ Request x ∷ []) ≡ requests_of xs ++ x ∷ []
-requests_of_request xs x = requests_of_append xs (Request x ∷ [])
-
-pub requests_of_passed : (xs : List Arrival) (p : PassedOver) → requests_of (xs ++ Passed p ∷ []) ≡ requests_of xs
-requests_of_passed xs p = requests_of_append xs (Passed p ∷ []) ∙ append-nil (requests_of xs)
-
-pub requests_of_ended : (xs : List Arrival) (r : Result StreamEnd ReadError) → requests_of (xs ++ Ended r ∷ []) ≡ requests_of xs
-requests_of_ended xs r = requests_of_append xs (Ended r ∷ []) ∙ append-nil (requests_of xs)
-
-pub passed_of_request : (xs : List Arrival) (x : Pairs) → passed_of (xs ++ Request x ∷ []) ≡ passed_of xs
-passed_of_request xs x = passed_of_append xs (Request x ∷ []) ∙ add-zero (passed_of xs)
-
-pub passed_of_passed : (xs : List Arrival) (p : PassedOver) → passed_of (xs ++ Passed p ∷ []) ≡ passed_of xs + 1
-passed_of_passed xs p = passed_of_append xs (Passed p ∷ []) ∙ ap (λ (k : ℕ). passed_of xs + k) (add-zero 1)
-
-pub passed_of_ended : (xs : List Arrival) (r : Result StreamEnd ReadError) → passed_of (xs ++ Ended r ∷ []) ≡ passed_of xs
-passed_of_ended xs r = passed_of_append xs (Ended r ∷ []) ∙ add-zero (passed_of xs)
-
--- an input begins with frames whose first requests came
+-- an input begins with frames of which the first came
 
 pub came_so_far : (n : ℕ) (input : Option (List ℕ)) (got : List Arrival) → LawfulAfter (Came n input) got → Heard n input got
 came_so_far n input got lawful =
@@ -47,11 +27,11 @@ came_so_far n input got lawful =
     record {
       frames = came.frames ++ came.later;
       begins = record { left = came.left; state = came.state; reads = came.reads };
-      later = requests_of held ++ requests n came.later;
-      requests_are =
-          requests_append n came.frames came.later
-          ∙ (ap (λ (l : List Pairs). l ++ requests n came.later) (sym came.requests_are ∙ requests_of_append got held)
-          ∙ append_assoc (requests_of got) (requests_of held) (requests n came.later));
+      later = readings_of held ++ readings n came.later;
+      readings_are =
+          readings_append n came.frames came.later
+          ∙ (ap (λ (l : List Reading). l ++ readings n came.later) (sym came.readings_are ∙ readings_of_append got held)
+          ∙ append_assoc (readings_of got) (readings_of held) (readings n came.later));
     }
 
 -- nothing comes after the end
@@ -83,8 +63,7 @@ heard_all n input e got held came last =
         reads = subst (λ (l : List (List ℕ)). Reads input came.left l came.state) frames came.reads;
         ends = known.1.1;
       };
-      requests_are = sym came.requests_are ∙ ap requests_of all;
-      passed_are = sym came.passed_are ∙ ap passed_of all;
+      readings_are = sym came.readings_are ∙ ap readings_of all;
     }
 
 -- once the end was got, the input was read to it, and all that came of it was got

@@ -1,8 +1,8 @@
--- What is read of a stream of frames, and which of its messages are requests.
+-- What is read of a stream of frames.
 -- for: frames::Frames, arrival::arrival_of, reader::put_messages
 use Rattle.std.proofs.Common.{◌≡◌, ◌<◌, ◌≤◌, ℕ, ◌+◌, List, [], ◌∷◌, ◌++◌, length, map, take, drop, take-append-drop, get_or, Option}
 use Rattle.std.proofs.Common.{Result, Ok, Err, refl, sym}
-use Rattle.std.proofs.Common.{add-zero, ap, arith, ◌∙◌, inl, append_assoc, append-nil, zero-add}
+use Rattle.std.proofs.Common.{ap, arith, ◌∙◌, inl, append-nil}
 use Rattle.std.proofs.KnownBytes.{Consumes-kept, Consumes-nil, Consumes-trans}
 use Rattle.std.proofs.lemmas.List.{length-append, length-take-le, map-append, take_more}
 use Rattle.std.specs.Io.KnownBytes.{Consumes, Keeps}
@@ -14,90 +14,70 @@ use Rattle.sw_frame.specs.Feeds.{StreamGoesOnFrom, messages}
 use Rattle.sw_frame.specs.Stream.{State, blank}
 use Rattle.iso_msg.specs.Messages.{PlainMessage}
 use Rattle.iso_codec.specs.declared.error.DecodeError.{DecodeError}
-use Rattle.iso_codec.specs.Reads.{read, type_of}
+use Rattle.iso_codec.specs.Reads.{type_of}
 use Rattle.std.specs.Prelude.{is_some, true, false}
-use Rattle.run_input.specs.Requests.{FramesIn, Reads, ReadsOn, if_passed, if_read, message_in, passed_over, readable, request_of, requests}
+use Rattle.run_input.specs.Requests.{FramesIn, Readable, Reading, Reads, ReadsOn, Unreadable, header_of, headers_in, passed_over, reading_by, reading_of}
+use Rattle.run_input.specs.Requests.{readings, request_of, requests_in}
 
--- requests
+-- what is read of a frame
 
-pub is_request : (n : ℕ) (r : Result PlainMessage DecodeError) (m : PlainMessage) (frame : List ℕ) → r ≡ Ok m
-    → map (request_of n) (if_read r frame) ≡ request_of n frame ∷ []
-is_request n r m frame is = rw is refl
+-- a frame whose message has a type is a request
+pub typed_reading : (n : ℕ) (r : Result PlainMessage DecodeError) (frame : List ℕ) → is_some (type_of r) ≡ true
+    → reading_by n r frame ≡ Readable (request_of n frame)
+typed_reading n (Ok m) frame typed = refl
+typed_reading n (Err e) frame typed = absurd cc
 
-pub is_none : (n : ℕ) (r : Result PlainMessage DecodeError) (e : DecodeError) (frame : List ℕ) → r ≡ Err e → map (request_of n) (if_read r frame) ≡ []
-is_none n r e frame is = rw is refl
-
--- a frame whose message has a type is a request, and is not passed over
-pub typed_request : (n : ℕ) (r : Result PlainMessage DecodeError) (frame : List ℕ) → is_some (type_of r) ≡ true →
-    map (request_of n) (if_read r frame) ≡ request_of n frame ∷ []
-typed_request n (Ok m) frame typed = refl
-typed_request n (Err e) frame typed = absurd cc
-
-pub typed_passed : (r : Result PlainMessage DecodeError) → is_some (type_of r) ≡ true → if_passed r ≡ 0
-typed_passed (Ok m) typed = refl
-typed_passed (Err e) typed = absurd cc
+pub unread_reading : (n : ℕ) (r : Result PlainMessage DecodeError) (e : DecodeError) (frame : List ℕ) → r ≡ Err e
+    → reading_by n r frame ≡ Unreadable (header_of n frame)
+unread_reading n r e frame is = rw is refl
 
 pub message_typed : (r : Result PlainMessage DecodeError) (m : PlainMessage) → r ≡ Ok m → is_some (type_of r) ≡ false → ⊥
 message_typed r m is untyped = let some : is_some (type_of r) ≡ true = rw is refl in cc
 
-readable_append : (n : ℕ) (ms ns : List (List ℕ)) → readable n (ms ++ ns) ≡ readable n ms ++ readable n ns
-readable_append n [] ns = refl
-readable_append n (m ∷ ms) ns = ap (λ (l : List (List ℕ)). if_read (read (message_in n m)) m ++ l) (readable_append n ms ns)
-    ∙ sym (append_assoc (if_read (read (message_in n m)) m) (readable n ms) (readable n ns))
+-- of more frames
 
-pub requests_append : (n : ℕ) (ms ns : List (List ℕ)) → requests n (ms ++ ns) ≡ requests n ms ++ requests n ns
-requests_append n ms ns = ap (map (request_of n)) (readable_append n ms ns) ∙ map-append (request_of n) (readable n ms) (readable n ns)
+pub requests_in_append : (xs ys : List Reading) → requests_in (xs ++ ys) ≡ requests_in xs ++ requests_in ys
+requests_in_append [] ys = refl
+requests_in_append (Readable x ∷ xs) ys = ap (λ (l : List Pairs). x ∷ l) (requests_in_append xs ys)
+requests_in_append (Unreadable h ∷ xs) ys = requests_in_append xs ys
 
-requests_of_one : (n : ℕ) (m : List ℕ) → requests n (m ∷ []) ≡ map (request_of n) (if_read (read (message_in n m)) m)
-requests_of_one n m = ap (map (request_of n)) (append-nil (if_read (read (message_in n m)) m))
+pub headers_in_append : (xs ys : List Reading) → headers_in (xs ++ ys) ≡ headers_in xs ++ headers_in ys
+headers_in_append [] ys = refl
+headers_in_append (Readable x ∷ xs) ys = headers_in_append xs ys
+headers_in_append (Unreadable h ∷ xs) ys = ap (λ (l : List (List ℕ)). h ∷ l) (headers_in_append xs ys)
 
-pub requests_more : (n : ℕ) (ms : List (List ℕ)) (m : List ℕ)
-    → requests n (ms ++ m ∷ []) ≡ requests n ms ++ map (request_of n) (if_read (read (message_in n m)) m)
-requests_more n ms m = requests_append n ms (m ∷ []) ∙ ap (λ (l : List Pairs). requests n ms ++ l) (requests_of_one n m)
+pub unread_append : (xs ys : List Reading) → length (headers_in (xs ++ ys)) ≡ length (headers_in xs) + length (headers_in ys)
+unread_append xs ys = ap length (headers_in_append xs ys) ∙ length-append (headers_in xs) (headers_in ys)
 
-pub requests_next : (n : ℕ) (list : List (Vec ℕ)) (i : ℕ) (m : Vec ℕ) (bytes : List ℕ) → i < length list → m ≡ get_or list i m → bytes ≡ m.items →
-    requests n (messages (take (i + 1) list)) ≡ requests n (messages (take i list)) ++ map (request_of n) (if_read (read (message_in n bytes)) bytes)
-requests_next n list i m bytes lt at is =
-    let more : take (i + 1) list ≡ take i list ++ m ∷ [] = take_more list i m lt ∙ ap (λ (v : Vec ℕ). take i list ++ v ∷ []) (sym at) in
-    rw (is, more, map-append) (requests_more n (messages (take i list)) m.items)
+pub readings_append : (n : ℕ) (ms ns : List (List ℕ)) → readings n (ms ++ ns) ≡ readings n ms ++ readings n ns
+readings_append n ms ns = map-append (reading_of n) ms ns
 
--- the requests of the first messages, and those of the others
-pub requests_front : (n : ℕ) (list : List (Vec ℕ)) (k : ℕ)
-    → requests n (messages list) ≡ requests n (messages (take k list)) ++ requests n (messages (drop k list))
-requests_front n list k =
-    let halves : messages (take k list ++ drop k list) ≡ messages (take k list) ++ messages (drop k list) =
-    map-append (λ (v : Vec ℕ). v.items) (take k list) (drop k list) in
-    ap (λ (l : List (Vec ℕ)). requests n (messages l)) (sym (take-append-drop k list))
-    ∙ (ap (requests n) halves ∙ requests_append n (messages (take k list)) (messages (drop k list)))
-
--- messages that are passed over
-
-pub none_passed : (r : Result PlainMessage DecodeError) (m : PlainMessage) → r ≡ Ok m → if_passed r ≡ 0
-none_passed r m is = rw is refl
-
-pub one_passed : (r : Result PlainMessage DecodeError) (e : DecodeError) → r ≡ Err e → if_passed r ≡ 1
-one_passed r e is = rw is refl
+pub readings_more : (n : ℕ) (ms : List (List ℕ)) (m : List ℕ) → readings n (ms ++ m ∷ []) ≡ readings n ms ++ reading_of n m ∷ []
+readings_more n ms m = readings_append n ms (m ∷ [])
 
 pub passed_over_append : (n : ℕ) (ms ns : List (List ℕ)) → passed_over n (ms ++ ns) ≡ passed_over n ms + passed_over n ns
-passed_over_append n [] ns = sym (zero-add (passed_over n ns))
-passed_over_append n (m ∷ ms) ns = let ih = passed_over_append n ms ns in omega (arith, ih)
+passed_over_append n ms ns = ap (λ (l : List Reading). length (headers_in l)) (readings_append n ms ns) ∙ unread_append (readings n ms) (readings n ns)
 
-pub passed_over_more : (n : ℕ) (ms : List (List ℕ)) (m : List ℕ)
-    → passed_over n (ms ++ m ∷ []) ≡ passed_over n ms + if_passed (read (message_in n m))
-passed_over_more n ms m =
-    passed_over_append n ms (m ∷ []) ∙ ap (λ (k : ℕ). passed_over n ms + k) (add-zero (if_passed (read (message_in n m))))
+pub readings_next : (n : ℕ) (list : List (Vec ℕ)) (i : ℕ) (m : Vec ℕ) (bytes : List ℕ) → i < length list → m ≡ get_or list i m → bytes ≡ m.items →
+    readings n (messages (take (i + 1) list)) ≡ readings n (messages (take i list)) ++ reading_of n bytes ∷ []
+readings_next n list i m bytes lt at is =
+    let more : take (i + 1) list ≡ take i list ++ m ∷ [] = take_more list i m lt ∙ ap (λ (v : Vec ℕ). take i list ++ v ∷ []) (sym at) in
+    rw (is, more, map-append) (readings_more n (messages (take i list)) m.items)
+
+-- the first messages, and the others
+pub readings_front : (n : ℕ) (list : List (Vec ℕ)) (k : ℕ)
+    → readings n (messages list) ≡ readings n (messages (take k list)) ++ readings n (messages (drop k list))
+readings_front n list k =
+    let halves : messages (take k list ++ drop k list) ≡ messages (take k list) ++ messages (drop k list) =
+    map-append (λ (v : Vec ℕ). v.items) (take k list) (drop k list) in
+    ap (λ (l : List (Vec ℕ)). readings n (messages l)) (sym (take-append-drop k list))
+    ∙ (ap (readings n) halves ∙ readings_append n (messages (take k list)) (messages (drop k list)))
 
 pub passed_over_next : (n : ℕ) (list : List (Vec ℕ)) (i : ℕ) (m : Vec ℕ) (bytes : List ℕ) → i < length list → m ≡ get_or list i m → bytes ≡ m.items →
-    passed_over n (messages (take (i + 1) list)) ≡ passed_over n (messages (take i list)) + if_passed (read (message_in n bytes))
+    passed_over n (messages (take (i + 1) list)) ≡ passed_over n (messages (take i list)) + length (headers_in (reading_of n bytes ∷ []))
 passed_over_next n list i m bytes lt at is =
-    let more : take (i + 1) list ≡ take i list ++ m ∷ [] = take_more list i m lt ∙ ap (λ (v : Vec ℕ). take i list ++ v ∷ []) (sym at) in
-    let halves : messages (take i list ++ m ∷ []) ≡ messages (take i list) ++ m.items ∷ [] = map-append (λ (v : Vec ℕ). v.items) (take i list) (m ∷ []) in
-    let whole : passed_over n (messages (take (i + 1) list)) ≡ passed_over n (messages (take i list)) + passed_over n (m.items ∷ []) =
-    ap (λ (l : List (Vec ℕ)). passed_over n (messages l)) more
-    ∙ (ap (passed_over n) halves ∙ passed_over_append n (messages (take i list)) (m.items ∷ [])) in
-    let one : passed_over n (m.items ∷ []) ≡ if_passed (read (message_in n bytes)) =
-    add-zero (if_passed (read (message_in n m.items))) ∙ ap (λ (l : List ℕ). if_passed (read (message_in n l))) (sym is) in
-    whole ∙ ap (λ (k : ℕ). passed_over n (messages (take i list)) + k) one
+    ap (λ (l : List Reading). length (headers_in l)) (readings_next n list i m bytes lt at is)
+    ∙ unread_append (readings n (messages (take i list))) (reading_of n bytes ∷ [])
 
 -- streams
 

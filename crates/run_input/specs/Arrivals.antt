@@ -3,29 +3,30 @@
 --
 -- - *Came*: what the thread that reads may hand over: what its frames are, up to those that were read, and after the
 --   last one how the input ended. *Heard* and *HeardAll*: what the thread that gets it knows of the input.
-use Rattle.std.specs.Prelude.{◌≡◌, ℕ, ◌+◌, ⊤, Bool, List, [], ◌∷◌, ◌++◌, map, Option, Some, None, Result, Ok, Err, option_to_list}
+use Rattle.std.specs.Prelude.{◌≡◌, ℕ, ⊤, Bool, List, [], ◌∷◌, ◌++◌, map, Option, Some, None, Result, Ok, Err, option_to_list}
 use Rattle.sw_context.specs.Pairs.{Pairs}
 use Rattle.sw_frame.specs.Stream.{State}
-use Rattle.iso_codec.specs.Reads.{read}
 use Rattle.run_input.specs.declared.arrival.Arrival.{Arrival}
 use Rattle.run_input.specs.declared.arrival.Arrival.TheVariants.{Ended, Passed, Request}
+use Rattle.run_input.specs.declared.arrival.PassedOver.{PassedOver}
 use Rattle.run_input.specs.declared.arrival.ReadError.{ReadError}
 use Rattle.run_input.specs.declared.frames.StreamEnd.{StreamEnd}
-use Rattle.run_input.specs.Requests.{BeginsWith, EndsAs, ReadTo, Reads, if_passed, if_read, message_in, passed_over, request_of, requests}
+use Rattle.run_input.specs.Requests.{BeginsWith, EndsAs, ReadTo, Reading, Readable, Reads, Unreadable, headers_in, reading_of, readings, requests_in}
+
+-- what was read of the frames that they came of
+abbrev pub readings_of : List Arrival → List Reading
+readings_of [] = []
+readings_of (Request x ∷ list) = Readable x ∷ readings_of list
+readings_of (Passed p ∷ list) = Unreadable p.header.items ∷ readings_of list
+readings_of (Ended r ∷ list) = readings_of list
 
 -- the contexts of the requests among them
 abbrev pub requests_of : List Arrival → List Pairs
-requests_of [] = []
-requests_of (Request x ∷ list) = x ∷ requests_of list
-requests_of (Passed p ∷ list) = requests_of list
-requests_of (Ended r ∷ list) = requests_of list
+requests_of list = requests_in (readings_of list)
 
--- how many of them are messages that are passed over
-abbrev pub passed_of : List Arrival → ℕ
-passed_of [] = 0
-passed_of (Request x ∷ list) = passed_of list
-passed_of (Passed p ∷ list) = 1 + passed_of list
-passed_of (Ended r ∷ list) = passed_of list
+-- the headers of the messages among them that are passed over
+abbrev pub headers_of : List Arrival → List (List ℕ)
+headers_of list = headers_in (readings_of list)
 
 -- all of them are messages
 abbrev pub AreMessages : List Arrival → Type 0
@@ -44,16 +45,14 @@ EndWith fact (Ended (Err e) ∷ list) = list ≡ []
 
 -- a frame whose header has `n` bytes is this
 pub record IsArrivalOf (n : ℕ) (frame : List ℕ) (a : Arrival) : Type 0 where
-  pub request : requests_of (a ∷ []) ≡ map (request_of n) (if_read (read (message_in n frame)) frame)
-  pub passed : passed_of (a ∷ []) ≡ if_passed (read (message_in n frame))
+  pub reading : readings_of (a ∷ []) ≡ reading_of n frame ∷ []
   pub is_message : AreMessages (a ∷ [])
 
 -- Of an input read so far these messages came, and then there are more frames.
 pub record CameSo (n : ℕ) (input left : Option (List ℕ)) (s : State) (list : List Arrival) (more : List (List ℕ)) : Type 0 where
   pub frames : List (List ℕ)
   pub reads : Reads input left (frames ++ more) s
-  pub requests_are : requests_of list ≡ requests n frames
-  pub passed_are : passed_of list ≡ passed_over n frames
+  pub readings_are : readings_of list ≡ readings n frames
   pub are_messages : AreMessages list
 
 -- These came of an input, the oldest first. More of it may have been read, unless it has ended.
@@ -63,23 +62,21 @@ pub record Came (n : ℕ) (input : Option (List ℕ)) (list : List Arrival) : Ty
   pub left : Option (List ℕ)
   pub state : State
   pub reads : Reads input left (frames ++ later) state
-  pub requests_are : requests_of list ≡ requests n frames
-  pub passed_are : passed_of list ≡ passed_over n frames
+  pub readings_are : readings_of list ≡ readings n frames
   pub ends : EndWith (λ e. (later ≡ []) × EndsAs e state left) list
 
--- an input begins with frames whose first requests are those that came so far
+-- an input begins with frames of which the first came so far
 pub record Heard (n : ℕ) (input : Option (List ℕ)) (list : List Arrival) : Type 0 where
   pub frames : List (List ℕ)
   pub begins : BeginsWith input frames
-  pub later : List Pairs
-  pub requests_are : requests n frames ≡ requests_of list ++ later
+  pub later : List Reading
+  pub readings_are : readings n frames ≡ readings_of list ++ later
 
 -- an input was read to its end, and these came of it
 pub record HeardAll (n : ℕ) (input : Option (List ℕ)) (end : StreamEnd) (list : List Arrival) : Type 0 where
   pub frames : List (List ℕ)
   pub read : ReadTo end input frames
-  pub requests_are : requests n frames ≡ requests_of list
-  pub passed_are : passed_over n frames ≡ passed_of list
+  pub readings_are : readings n frames ≡ readings_of list
 
 -- the last of them is how the input ended
 abbrev pub IsLast : Result StreamEnd ReadError → List Arrival → Type 0
@@ -97,6 +94,12 @@ pub record Hearing : Type 0 where
   pub passed : ℕ
   pub end : Option (Result StreamEnd ReadError)
   pub ended : Bool
+
+-- since these came, more came, of whose messages these are passed over
+pub record CameSince (before after : List Arrival) (passed : List PassedOver) : Type 0 where
+  pub came : List Arrival
+  pub came_are : after ≡ before ++ came
+  pub headers_are : map (λ p. p.header.items) passed ≡ headers_of came
 
 -- how the input ended is the last that came
 abbrev pub IfLast : Option (Result StreamEnd ReadError) → List Arrival → Type 0

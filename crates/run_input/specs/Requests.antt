@@ -1,10 +1,10 @@
 -- The requests that a run reads.
 --
 -- - *Message in* (`Requests.antt`): what a frame has after its header, of a given number of bytes.
---   *Readable, requests*: the frames of a list whose messages can be read; the contexts they are
---   offered in. *Reads*: the bytes taken from an input, whose frames these are, and what
+--   *Reading*: what is read of a frame: a request in its context, or that its message cannot be read.
+--   *Reads*: the bytes taken from an input, whose frames these are, and what
 --   a framer keeps. *Ends as*: how a stream ended, by its framer and what is left of the input.
-use Rattle.std.specs.Prelude.{◌≡◌, ◌<◌, ℕ, ◌+◌, ⊤, true, false, List, [], ◌∷◌, ◌++◌, length, map, take, drop, Option, Result, Ok, Err, codes}
+use Rattle.std.specs.Prelude.{◌≡◌, ◌<◌, ℕ, ⊤, true, false, if◌then◌else◌, nat_le, List, [], ◌∷◌, ◌++◌, length, map, take, drop, Option, Result, Ok, Err, codes}
 use Rattle.std.specs.Io.KnownBytes.{Consumes, IsAtEnd}
 use Rattle.sw_context.specs.Pairs.{Pairs}
 use Rattle.sw_frame.specs.Stream.{State, Stream}
@@ -18,15 +18,6 @@ use Rattle.run_input.specs.declared.frames.StreamEnd.TheVariants.{Whole, BadLeng
 abbrev pub message_in : ℕ → List ℕ → List ℕ
 message_in n frame = drop n frame
 
--- this frame, if its message can be read; the others are passed over
-abbrev pub if_read : Result PlainMessage DecodeError → List ℕ → List (List ℕ)
-if_read (Ok m) frame = frame ∷ []
-if_read (Err e) frame = []
-
-abbrev pub readable : ℕ → List (List ℕ) → List (List ℕ)
-readable n [] = []
-readable n (frame ∷ more) = if_read (read (message_in n frame)) frame ++ readable n more
-
 -- the entry of a header in a context; a header without bytes has none
 abbrev pub header_entry : List ℕ → Pairs
 header_entry [] = []
@@ -36,9 +27,36 @@ header_entry (byte ∷ more) = (codes "header", byte ∷ more) ∷ []
 abbrev pub request_of : ℕ → List ℕ → Pairs
 request_of n frame = header_entry (take n frame) ++ (codes "request", message_in n frame) ∷ []
 
--- the contexts in which the messages that can be read are offered
-abbrev pub requests : ℕ → List (List ℕ) → List Pairs
-requests n frames = map (request_of n) (readable n frames)
+-- the header of a frame; one that is shorter has none
+abbrev pub header_of : ℕ → List ℕ → List ℕ
+header_of n frame = if nat_le n (length frame) then take n frame else []
+
+-- what is read of a frame: a request, in the context that it is offered in; or, if its message cannot be read, its header
+pub data Reading : Type 0 where
+  Readable : (request : Pairs) → Reading
+  Unreadable : (header : List ℕ) → Reading
+
+abbrev pub reading_by : ℕ → Result PlainMessage DecodeError → List ℕ → Reading
+reading_by n (Ok m) frame = Readable (request_of n frame)
+reading_by n (Err e) frame = Unreadable (header_of n frame)
+
+abbrev pub reading_of : ℕ → List ℕ → Reading
+reading_of n frame = reading_by n (read (message_in n frame)) frame
+
+abbrev pub readings : ℕ → List (List ℕ) → List Reading
+readings n frames = map (reading_of n) frames
+
+-- the requests among them
+abbrev pub requests_in : List Reading → List Pairs
+requests_in [] = []
+requests_in (Readable x ∷ rs) = x ∷ requests_in rs
+requests_in (Unreadable h ∷ rs) = requests_in rs
+
+-- the headers of messages that are passed over
+abbrev pub headers_in : List Reading → List (List ℕ)
+headers_in [] = []
+headers_in (Readable x ∷ rs) = headers_in rs
+headers_in (Unreadable h ∷ rs) = h ∷ headers_in rs
 
 -- how the stream ended: whole frames were read to the end of the input; or a length is not four digits; or the input ends within a frame
 abbrev pub EndsAs : StreamEnd → State → Option (List ℕ) → Type 0
@@ -76,12 +94,6 @@ pub record BeginsWith (input : Option (List ℕ)) (frames : List (List ℕ)) : T
   pub state : State
   pub reads : Reads input left frames state
 
--- the messages that are passed over are those that cannot be read
-abbrev pub if_passed : Result PlainMessage DecodeError → ℕ
-if_passed (Ok m) = 0
-if_passed (Err e) = 1
-
--- how many of these frames are passed over
+-- how many of these frames are passed over, since their messages cannot be read
 abbrev pub passed_over : ℕ → List (List ℕ) → ℕ
-passed_over n [] = 0
-passed_over n (frame ∷ more) = if_passed (read (message_in n frame)) + passed_over n more
+passed_over n frames = length (headers_in (readings n frames))

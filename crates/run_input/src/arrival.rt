@@ -1,9 +1,9 @@
 //! What comes of an input.
 
-ghost use Rattle.std.specs.Prelude.{◌≡◌, ◌<◌, ◌+◌, ◌++◌, ◌∷◌, [], IfOk, option_to_list, vec_capacity, vec_len};
-ghost use Rattle.std.specs.Prelude.{codes, take};
-ghost use Rattle.run_input.specs.Arrivals.{IsArrivalOf, end_after, passed_of, requests_of};
-ghost use Rattle.run_input.specs.Requests.{header_entry, message_in};
+ghost use Rattle.std.specs.Prelude.{◌≡◌, ◌<◌, ◌++◌, ◌∷◌, [], IfOk, option_to_list, vec_capacity, vec_len};
+ghost use Rattle.std.specs.Prelude.{codes, map, take};
+ghost use Rattle.run_input.specs.Arrivals.{IsArrivalOf, end_after, headers_of, requests_of};
+ghost use Rattle.run_input.specs.Requests.{header_entry, header_of, message_in};
 
 use crate::frames::StreamEnd;
 use iso_codec::{DecodeError, decode, type_in};
@@ -16,6 +16,8 @@ use sw_participant::NoMemory;
 pub struct PassedOver {
     /// Its number, from 1.
     pub number: u64,
+    /// The header before it. None if the frame is shorter than a header.
+    pub header: Vec<u8>,
     pub error: DecodeError,
 }
 
@@ -59,7 +61,8 @@ impl Arrival {
     ) -> Option<Context>
         requires { vec_len passed.old < vec_capacity passed.old }
         ensures request { option_to_list result ≡ requests_of (self ∷ []) }
-        ensures passed { vec_len passed.new ≡ vec_len passed.old + passed_of (self ∷ []) }
+        ensures passed { map (λ p. p.header.items) passed.new.items
+            ≡ map (λ p. p.header.items) passed.old.items ++ headers_of (self ∷ []) }
         ensures capacity { vec_capacity passed.new ≡ vec_capacity passed.old }
         ensures end { end.new ≡ end_after end.old self }
     {
@@ -119,6 +122,17 @@ fn split_frame(frame: &[u8], header: usize) -> (&[u8], &[u8])
     }
 }
 
+// The header of a frame, which has this many bytes. A frame that is shorter has none.
+fn header_in(frame: &[u8], header: usize) -> &[u8]
+    ensures { result.now ≡ header_of header frame.now }
+{
+    if header <= frame.len() {
+        &frame[..header]
+    } else {
+        &frame[..0]
+    }
+}
+
 /// What the frame of this number is: a request, or passed over. Its message comes after a header of `header` bytes.
 pub fn arrival_of(
     alloc: Global,
@@ -128,14 +142,19 @@ pub fn arrival_of(
 ) -> Result<Arrival, ReadError>
     ensures { IfOk result (λ arrival. IsArrivalOf header frame.now arrival) }
 {
-    let (header, message) = split_frame(frame, header);
+    let (before, message) = split_frame(frame, header);
     // A message that can be read is only checked here; it is decoded where its fields are needed.
     if type_in(message).is_some() {
-        return Ok(Arrival::Request(context_of(alloc, number, header, message)?));
+        return Ok(Arrival::Request(context_of(alloc, number, before, message)?));
     }
-    match decode(alloc, message) {
+    let error = match decode(alloc, message) {
         Ok(_) => unreachable!(),
-        Err(DecodeError::OutOfMemory) => Err(ReadError::OutOfMemory),
-        Err(error) => Ok(Arrival::Passed(PassedOver { number, error })),
-    }
+        Err(DecodeError::OutOfMemory) => return Err(ReadError::OutOfMemory),
+        Err(error) => error,
+    };
+    Ok(Arrival::Passed(PassedOver {
+        number,
+        header: Vec::from_slice(alloc, header_in(frame, header))?,
+        error,
+    }))
 }

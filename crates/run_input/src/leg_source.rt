@@ -1,9 +1,9 @@
 //! The source of a leg.
 
-ghost use Rattle.std.specs.Prelude.{◌≡◌, ◌<◌, ◌+◌, ◌||◌, ◌++◌, List, IfOk, IfNone, OnErr, is_none, false, length};
+ghost use Rattle.std.specs.Prelude.{◌≡◌, ◌<◌, ◌||◌, ◌++◌, List, IfOk, IfNone, OnErr, is_none, false};
 ghost use Rattle.std.specs.Prelude.{⊤, option_to_list};
 ghost use Rattle.sw_context.specs.Pairs.{Pairs};
-ghost use Rattle.run_input.specs.Arrivals.{IfLast, heard, passed_of, requests_of};
+ghost use Rattle.run_input.specs.Arrivals.{CameSince, IfLast, heard, requests_of};
 
 use crate::arrival::{PassedOver, ReadError};
 use crate::arrivals::Arrivals;
@@ -18,7 +18,7 @@ use sw_context::Context;
 use sw_participant::NoMemory;
 use tx_intake::Source;
 
-/// The most messages of a leg that are passed over.
+/// The most messages of a leg that are passed over, whatever its limits.
 const MOST_PASSED: usize = 64;
 
 /// How long a leg goes on when nothing is under way, in milliseconds.
@@ -31,6 +31,8 @@ pub struct LegLimits {
     pub entries: u64,
     /// Once it has offered this many requests.
     pub requests: u64,
+    /// Once it has passed this many messages over, or 64.
+    pub passed: usize,
     /// Once it has gone on for this long, if anything is due then.
     pub time: Option<Duration>,
 }
@@ -65,8 +67,8 @@ pub struct LegSource<'a, B: Input, L: Leg, T> {
 }
 
 impl<'a, B: Input, L: Leg, T> Model for LegSource<'a, B, L, T> {
-    ghost use Rattle.std.specs.Prelude.{◌≡◌, ◌+◌, ◌≤◌, length, vec_capacity};
-    ghost use Rattle.run_input.specs.Arrivals.{Hearing, IfLast, passed_of};
+    ghost use Rattle.std.specs.Prelude.{◌≤◌, length, vec_capacity};
+    ghost use Rattle.run_input.specs.Arrivals.{CameSince, Hearing, IfLast};
 
     ghost Value = { Hearing };
 
@@ -77,7 +79,7 @@ impl<'a, B: Input, L: Leg, T> Model for LegSource<'a, B, L, T> {
       ended = s.ended;
     } };
 
-    ghost invariant = { λ s. (passed_of s.arrivals ≡ passed_of L.before + length s.passed.items)
+    ghost invariant = { λ s. CameSince L.before s.arrivals s.passed.items
         × IfLast s.end s.arrivals × (64 ≤ vec_capacity s.passed) };
 }
 
@@ -97,8 +99,8 @@ impl<'a, B: Input, T: Wait> Arrivals<'a, B, T> {
     ) -> Result<(Option<Context>, Heard<'a, B, T>), AllocError>
         ensures request { IfOk result (λ next. requests_of next.1.arrivals
             ≡ requests_of self.entry ++ option_to_list next.0) }
-        ensures passed { IfOk result (λ next. passed_of next.1.arrivals
-            ≡ passed_of self.entry + length next.1.passed.items) }
+        ensures came { IfOk result (λ next.
+            CameSince self.entry next.1.arrivals next.1.passed.items) }
         ensures end { IfOk result (λ next. IfLast next.1.end next.1.arrivals) }
     {
         let mut passed = Vec::with_capacity(alloc, 1)?;
@@ -145,8 +147,7 @@ impl<'a, B: Input, L: Leg, T: Clock> LegSource<'a, B, L, T> {
     /// What it heard.
     pub fn finish(self) -> Heard<'a, B, T>
         ensures got { result.arrivals ≡ self.entry.got }
-        ensures passed { passed_of self.entry.got
-            ≡ passed_of L.before + length result.passed.items }
+        ensures came { CameSince L.before self.entry.got result.passed.items }
         ensures end { IfLast result.end self.entry.got }
     {
         let LegSource {
@@ -186,7 +187,8 @@ impl<'a, B: Input, L: Leg, T: Clock> LegSource<'a, B, L, T> {
         ensures ends { result ≡ false → self.now.end ≡ None }
         ensures room { result ≡ false → self.now.passed < 64 }
     {
-        if self.end.is_some() || self.passed.len() >= MOST_PASSED {
+        let passed = self.limits.passed.min(MOST_PASSED);
+        if self.end.is_some() || self.passed.len() >= passed {
             return true;
         }
         let watch = self.watch();

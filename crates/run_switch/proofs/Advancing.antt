@@ -1,21 +1,20 @@
 -- Requests answered with advices sent between them.
 -- for: stream::answer_input, streaming::answer_stream, advices::send_between
 use Rattle.std.proofs.Common.{◌≡◌, ℕ, ◌+◌, false, List, [], ◌∷◌, ◌++◌, length, Option, Some, refl, sym, ap, subst, ◌∙◌, append_assoc, append-nil}
-use Rattle.sw_context.specs.Pairs.{Pairs}
 use Rattle.sw_frame.specs.Stream.{State, blank}
 use Rattle.run_responses.specs.declared.sink.ResponseOrder.{ResponseOrder}
 use Rattle.run_switch.specs.Advices.{AdviceStep, Between, PlainAdvisor, SendsAll, SendsBetween, due_between}
 use Rattle.run_switch.specs.Legs.{Advances, AdvancesBy, AdvancesFor, AdvancesWith, Leg, Legs, Stage, lines_of, rounds_in, stage}
 use Rattle.run_switch.specs.Lines.{Line}
 use Rattle.run_switch.specs.Points.{Point, is_long, world_at}
-use Rattle.run_input.specs.Requests.{Reads, passed_over, requests}
+use Rattle.run_input.specs.Requests.{Reading, Reads, headers_in, readings}
 use Rattle.run_switch.specs.Rounds.{Round, Serves}
 use Rattle.run_switch.specs.Stopped.{HaltsHeard, HaltsOn, StopsWithin}
 use Rattle.run_switch.specs.Traces.{Answered, Cuts, Log, ReportsWith, Tells}
 use Rattle.run_input.specs.declared.arrival.Arrival.{Arrival}
 use Rattle.run_input.specs.declared.frames.StreamEnd.{StreamEnd}
-use Rattle.run_input.specs.Arrivals.{Heard, HeardAll, passed_of, requests_of}
-use Rattle.run_input.proofs.Readings.{nothing_read, passed_over_append, requests_append}
+use Rattle.run_input.specs.Arrivals.{Heard, HeardAll, readings_of}
+use Rattle.run_input.proofs.Readings.{nothing_read, readings_append, unread_append}
 use Rattle.run_switch.proofs.Resting.{may_keep}
 use Rattle.run_switch.proofs.Rounds.{serves_none, serves_then}
 use Rattle.run_switch.proofs.Stops.{rounds_append, rounds_none, toward_none}
@@ -87,30 +86,36 @@ advances_sends step rs x y lines t q a b = record {
   advisor = refl;
 }
 
--- of requests, and of messages that are passed over
+-- of what was read
 
-pub advanced_none : (step : AdviceStep) (threads : Option ResponseOrder) (x : Stage) (l : Log) → AdvancesWith step threads [] 0 x l x l
+pub advanced_none : (step : AdviceStep) (threads : Option ResponseOrder) (x : Stage) (l : Log) → AdvancesWith step threads [] x l x l
 advanced_none step threads x l = record { rounds = []; answers = rounds_none threads; advances = advances_none step x; tells = tells_none l }
 
-pub advanced_then : (step : AdviceStep) (threads : Option ResponseOrder) (xs ys : List Pairs) (i j : ℕ) (x y : Stage) (q : Point) (c : Option (List ℕ))
-    (k l m : Log) → AdvancesWith step threads xs i x k y l → ReportsWith threads ys j y.point y.out l q c m →
-    AdvancesWith step threads (xs ++ ys) (i + j) x k (stage y.advisor q c) m
-advanced_then step threads xs ys i j x y q c k l m a r = record {
-  rounds = a.rounds ++ r.rounds;
-  answers = rounds_append threads xs ys a.rounds r.rounds a.answers r.answers;
-  advances = advances_serves step a.rounds r.rounds x y q c a.advances r.reports.serves;
-  tells = (let both : Tells ((a.advances.lines ++ a.advances.serves.lines) ++ r.reports.serves.lines) (i + j) k m =
-      tells_then (lines_of a.advances) r.reports.serves.lines i j k l m a.tells r.reports.tells in
-      subst (λ (ls : List Line). Tells ls (i + j) k m) (append_assoc a.advances.lines a.advances.serves.lines r.reports.serves.lines) both);
-}
+pub advanced_then : (step : AdviceStep) (threads : Option ResponseOrder) (xs ys : List Reading) (x y : Stage) (q : Point) (c : Option (List ℕ))
+    (k l m : Log) → AdvancesWith step threads xs x k y l → ReportsWith threads ys y.point y.out l q c m →
+    AdvancesWith step threads (xs ++ ys) x k (stage y.advisor q c) m
+advanced_then step threads xs ys x y q c k l m a r =
+    let i = length (headers_in xs) in
+    let j = length (headers_in ys) in
+    let lines = a.advances.lines ++ (a.advances.serves.lines ++ r.reports.serves.lines) in
+    let both : Tells ((a.advances.lines ++ a.advances.serves.lines) ++ r.reports.serves.lines) (i + j) k m =
+    tells_then (lines_of a.advances) r.reports.serves.lines i j k l m a.tells r.reports.tells in
+    record {
+      rounds = a.rounds ++ r.rounds;
+      answers = rounds_append threads xs ys a.rounds r.rounds a.answers r.answers;
+      advances = advances_serves step a.rounds r.rounds x y q c a.advances r.reports.serves;
+      tells = subst (λ (n : ℕ). Tells lines n k m) (sym (unread_append xs ys))
+          (subst (λ (ls : List Line). Tells ls (i + j) k m) (append_assoc a.advances.lines a.advances.serves.lines r.reports.serves.lines) both);
+    }
 
-pub advanced_sends : (step : AdviceStep) (threads : Option ResponseOrder) (xs : List Pairs) (i : ℕ) (x y : Stage) (t : PlainAdvisor) (q : Point) (k l m : Log)
-    → AdvancesWith step threads xs i x k y l → SendsBetween step y.advisor y.point l t q m → AdvancesWith step threads xs i x k (stage t q y.out) m
-advanced_sends step threads xs i x y t q k l m a b = record {
+pub advanced_sends : (step : AdviceStep) (threads : Option ResponseOrder) (xs : List Reading) (x y : Stage) (t : PlainAdvisor) (q : Point) (k l m : Log)
+    → AdvancesWith step threads xs x k y l → SendsBetween step y.advisor y.point l t q m → AdvancesWith step threads xs x k (stage t q y.out) m
+advanced_sends step threads xs x y t q k l m a b = record {
   rounds = a.rounds;
   answers = a.answers;
   advances = advances_sends step a.rounds x y b.lines t q a.advances b.between;
-  tells = (let both : Tells ((a.advances.lines ++ a.advances.serves.lines) ++ b.lines) i k m =
+  tells = (let i = length (headers_in xs) in
+      let both : Tells ((a.advances.lines ++ a.advances.serves.lines) ++ b.lines) i k m =
       lines_then (lines_of a.advances) b.lines i k l m a.tells b.tells in
       subst (λ (ls : List Line). Tells ls i k m) (append_assoc a.advances.lines a.advances.serves.lines b.lines
       ∙ sym (append-nil (a.advances.lines ++ (a.advances.serves.lines ++ b.lines)))) both);
@@ -118,28 +123,24 @@ advanced_sends step threads xs i x y t q k l m a b = record {
 
 -- the messages of further frames
 pub advanced_frames : (header : ℕ) (step : AdviceStep) (threads : Option ResponseOrder) (frames more : List (List ℕ)) (x y : Stage) (q : Point) (c : Option (List ℕ))
-    (k l m : Log) → AdvancesFor header step threads frames x k y l → ReportsWith threads (requests header more) (passed_over header more) y.point y.out l q c m →
+    (k l m : Log) → AdvancesFor header step threads frames x k y l → ReportsWith threads (readings header more) y.point y.out l q c m →
     AdvancesFor header step threads (frames ++ more) x k (stage y.advisor q c) m
 advanced_frames header step threads frames more x y q c k l m a r =
-    let all = advanced_then step threads (requests header frames) (requests header more) (passed_over header frames) (passed_over header more) x y q c k l m a r in
-    subst (λ (n : ℕ). AdvancesWith step threads (requests header (frames ++ more)) n x k (stage y.advisor q c) m) (sym (passed_over_append header frames more))
-    (subst (λ (xs : List Pairs). AdvancesWith step threads xs (passed_over header frames + passed_over header more) x k (stage y.advisor q c) m)
-    (sym (requests_append header frames more)) all)
+    subst (λ (read : List Reading). AdvancesWith step threads read x k (stage y.advisor q c) m) (sym (readings_append header frames more))
+    (advanced_then step threads (readings header frames) (readings header more) x y q c k l m a r)
 
 -- what came in a further leg
 pub advanced_leg : (step : AdviceStep) (order : ResponseOrder) (got then : List Arrival) (x y : Stage) (q : Point) (c : Option (List ℕ)) (k l m : Log)
     → AdvancesBy step order got x k y l → Answered order got y.point y.out l then q c m → AdvancesBy step order then x k (stage y.advisor q c) m
 advanced_leg step order got then x y q c k l m a s =
-    let all = advanced_then step (Some order) (requests_of got) s.requests (passed_of got) s.passed x y q c k l m a s.reports in
-    subst (λ (n : ℕ). AdvancesWith step (Some order) (requests_of then) n x k (stage y.advisor q c) m) (sym s.passed_are)
-    (subst (λ (xs : List Pairs). AdvancesWith step (Some order) xs (passed_of got + s.passed) x k (stage y.advisor q c) m) (sym s.requests_are) all)
+    subst (λ (read : List Reading). AdvancesWith step (Some order) read x k (stage y.advisor q c) m) (sym s.came_are)
+    (advanced_then step (Some order) (readings_of got) s.came x y q c k l m a s.reports)
 
 -- all that came of an input, which was read to its end
 pub advanced_all : (header : ℕ) (step : AdviceStep) (order : ResponseOrder) (input : Option (List ℕ)) (end : StreamEnd) (got : List Arrival) (x y : Stage) (k l : Log)
     → (h : HeardAll header input end got) → AdvancesBy step order got x k y l → AdvancesFor header step (Some order) h.frames x k y l
 advanced_all header step order input end got x y k l h a =
-    subst (λ (n : ℕ). AdvancesWith step (Some order) (requests header h.frames) n x k y l) (sym h.passed_are)
-    (subst (λ (xs : List Pairs). AdvancesWith step (Some order) xs (passed_of got) x k y l) (sym h.requests_are) a)
+    subst (λ (read : List Reading). AdvancesWith step (Some order) read x k y l) (sym h.readings_are) a
 
 -- up to an error
 
@@ -168,9 +169,9 @@ stops_on header step threads input left frames s x y k l c reads a on =
       frames = frames ++ more;
       begins = begins;
       halts = record {
-        first = requests header frames;
-        later = requests header more;
-        order = requests_append header frames more;
+        first = readings header frames;
+        later = readings header more;
+        order = readings_append header frames more;
         rounds = a.rounds;
         answers = a.answers;
         reached = y;
@@ -186,9 +187,9 @@ stops_by header step order input got x y k l c a h = record {
   frames = h.frames;
   begins = h.begins;
   halts = record {
-    first = requests_of got;
+    first = readings_of got;
     later = h.later;
-    order = h.requests_are;
+    order = h.readings_are;
     rounds = a.rounds;
     answers = a.answers;
     reached = y;
@@ -204,7 +205,7 @@ stops_heard header step order input got x y k l a h = stops_by header step order
   frames = h.frames;
   begins = h.begins;
   later = h.later;
-  requests_are = h.requests_are;
+  readings_are = h.readings_are;
   halts = toward_none (Some order) h.later y.point y.out;
 })
 

@@ -1,94 +1,112 @@
 -- What came alone, answered in turn, and what comes after it.
 -- for: alone
-use Rattle.std.proofs.Common.{◌≡◌, ℕ, ◌+◌, List, [], ◌∷◌, ◌++◌, Option, Some, None, refl, sym, ap, ◌∙◌, append_assoc, append-nil, add-zero}
-use Rattle.std.specs.Prelude.{option_to_list}
+use Rattle.std.proofs.Common.{◌≡◌, ℕ, ◌+◌, List, [], ◌∷◌, ◌++◌, length, map, Option, Some, None, refl, sym, ap, subst, ◌∙◌, add-zero, append_assoc, append-nil}
 use Rattle.std.specs.List.{AllByRecursion}
 use Rattle.sw_context.specs.Pairs.{Pairs}
 use Rattle.run_input.specs.declared.arrival.Arrival.{Arrival}
-use Rattle.run_input.specs.Arrivals.{Heard, passed_of, requests_of}
+use Rattle.run_input.specs.declared.arrival.PassedOver.{PassedOver}
+use Rattle.run_input.specs.Arrivals.{CameSince, Heard, headers_of, readings_of, requests_of}
+use Rattle.run_input.proofs.Hearings.{readings_of_append}
 use Rattle.run_responses.specs.declared.sink.ResponseOrder.{ResponseOrder}
 use Rattle.run_switch.specs.Points.{Point}
-use Rattle.run_switch.specs.Rounds.{IsOfStream, Round, Serves, Trimmed, answering, offered_in}
-use Rattle.run_switch.specs.Stopped.{DrainsSome, Halts, HaltsHeard, HaltsInTurn}
-use Rattle.run_switch.specs.Traces.{Answered, Cuts, DrainsAll, InTurn, Log, Reports, Tells}
-use Rattle.run_switch.proofs.Rounds.{reports_both, reports_passed, serves_then, serves_trimmed}
+use Rattle.run_switch.specs.Rounds.{AreOfStream, IsOfStream, Round, Serves, Trimmed, offered_in, offering, returned_in, returning}
+use Rattle.run_switch.specs.Stopped.{DrainsSome, Halts, HaltsHeard, HaltsThen}
+use Rattle.run_switch.specs.Traces.{Answered, Cuts, DrainsAll, InTurn, Log, PassesOver, Reports, Settles, Tells}
+use Rattle.run_switch.proofs.LegRounds.{halts_since, led_are, reports_end, settles, stream_end, stream_returning}
+use Rattle.run_switch.proofs.Rounds.{reports_both, serves_then}
 use Rattle.run_switch.proofs.Shown.{reports_shown}
-use Rattle.run_switch.proofs.Stops.{halts_all, halts_before, halts_none, halts_then, of_stream_append, offered_append, retries_are_of_stream, retries_offer_none}
-use Rattle.run_switch.proofs.Stops.{toward_none}
-use Rattle.run_switch.proofs.Tracing.{lines_then}
+use Rattle.run_switch.proofs.Stops.{halts_before, halts_then, stream_append, stream_retries, toward_none}
 
 -- requests that are answered in turn are rounds of a stream
 
-offered_answering : (xs : List Pairs) → offered_in (answering xs) ≡ xs
-offered_answering [] = refl
-offered_answering (x ∷ xs) = ap (λ (l : List Pairs). x ∷ l) (offered_answering xs)
+offered_offering : (xs : List Pairs) → offered_in (offering xs) ≡ xs
+offered_offering [] = refl
+offered_offering (x ∷ xs) = ap (λ (l : List Pairs). x ∷ l) (offered_offering xs)
 
-answering_is_of_stream : (order : ResponseOrder) (xs : List Pairs) → AllByRecursion (IsOfStream order) (answering xs)
-answering_is_of_stream order [] = tt
-answering_is_of_stream order (x ∷ xs) = (tt, (tt, answering_is_of_stream order xs))
+returned_offering : (xs : List Pairs) → returned_in (offering xs) ≡ []
+returned_offering [] = refl
+returned_offering (x ∷ xs) = returned_offering xs
 
-offered_in_turn : (xs : List Pairs) (rs : List Round) → offered_in rs ≡ [] → offered_in (answering xs ++ rs) ≡ xs
-offered_in_turn xs rs none =
-    offered_append (answering xs) rs ∙ (ap (λ (l : List Pairs). offered_in (answering xs) ++ l) none ∙ (append-nil (offered_in (answering xs)) ∙ offered_answering xs))
+offering_is_of_stream : (order : ResponseOrder) (xs : List Pairs) → AllByRecursion (IsOfStream order) (offering xs)
+offering_is_of_stream order [] = tt
+offering_is_of_stream order (x ∷ xs) = (tt, (tt, offering_is_of_stream order xs))
+
+stream_offering : (order : ResponseOrder) (xs : List Pairs) → AreOfStream order xs [] (offering xs)
+stream_offering order xs = record { offered = offered_offering xs; returned = returned_offering xs; of_stream = offering_is_of_stream order xs }
+
+-- headers that are given back, requests, and what comes after them
+stream_in_turn : (order : ResponseOrder) (xs : List Pairs) (hs : List (List ℕ)) (rs : List Round) → AreOfStream order [] [] rs
+    → AreOfStream order xs hs (returning hs ++ (offering xs ++ rs))
+stream_in_turn order xs hs rs are =
+    subst (λ (ys : List Pairs). AreOfStream order ys hs (returning hs ++ (offering xs ++ rs))) (append-nil xs)
+    (subst (λ (gs : List (List ℕ)). AreOfStream order (xs ++ []) gs (returning hs ++ (offering xs ++ rs))) (append-nil hs)
+    (stream_append order [] (xs ++ []) hs [] (returning hs) (offering xs ++ rs) (stream_returning order hs)
+    (stream_append order xs [] [] [] (offering xs) rs (stream_offering order xs) are)))
 
 -- what was answered in turn
 
-pub in_turn : (xs : List Pairs) (n : ℕ) (p q r t : Point) (a b c : Option (List ℕ)) (i j k l m : Log) → Tells [] n i j → Reports (answering xs) 0 p a j q b k
-    → DrainsAll q b k r c l → Cuts r l t m → InTurn xs n p a i t c m
-in_turn xs n p q r t a b c i j k l m tells reports drains cuts = record {
-  answered = q;
+pub in_turn : (xs : List Pairs) (hs : List (List ℕ)) (p q r t : Point) (a b c d : Option (List ℕ)) (i j k l m : Log) → PassesOver hs a i b j
+    → Reports (offering xs) 0 p b j q c k → DrainsAll q c k r d l → Cuts r l t m → InTurn xs hs p a i t d m
+in_turn xs hs p q r t a b c d i j k l m passes reports drains cuts = record {
   given = b;
-  noted = k;
-  reports = reports_passed (answering xs) n p q a b i j k tells reports;
-  drained = r;
-  then = l;
-  drains = drains;
-  cuts = cuts;
+  noted = j;
+  passes = passes;
+  answered = q;
+  between = c;
+  then = k;
+  reports = reports;
+  ends = settles q r t c d k l m drains cuts;
 }
 
-pub alone_answered : (order : ResponseOrder) (got then : List Arrival) (xs : List Pairs) (n : ℕ) (p q : Point) (a c : Option (List ℕ)) (i k l : Log)
-    → requests_of then ≡ requests_of got ++ xs → passed_of then ≡ passed_of got + n → InTurn xs n p a i q c k → Tells [] 0 k l
-    → Answered order got p a i then q c l
-alone_answered order got then xs n p q a c i k l heard passed t shown =
-    let d = t.drains.drains in
-    let rs = d.rounds in
-    let last : List Round = rs ++ Trimmed ∷ [] in
-    let all : List Round = answering xs ++ last in
-    let none : offered_in last ≡ [] = offered_append rs (Trimmed ∷ []) ∙ ap (λ (l : List Pairs). l ++ []) (retries_offer_none rs d.retries) in
-    let after : Reports last 0 t.answered t.given t.noted q c k = record {
-      serves = serves_then rs (Trimmed ∷ []) t.answered t.drained q t.given c c d.serves (serves_trimmed t.drained q t.cuts.lines c t.cuts.cuts);
-      tells = lines_then d.serves.lines t.cuts.lines 0 t.noted t.then k t.drains.tells t.cuts.tells;
-    } in
-    let reports : Reports all n p a i q c k = reports_both (answering xs) last n 0 n p t.answered q a t.given c i t.noted k (sym (add-zero n)) t.reports after in
+pub alone_answered : (order : ResponseOrder) (got then : List Arrival) (xs : List Pairs) (passed : List PassedOver) (p q : Point) (a c : Option (List ℕ))
+    (i k l : Log) → requests_of then ≡ requests_of got ++ xs → CameSince got then passed → InTurn xs (map (λ m. m.header.items) passed) p a i q c k
+    → Tells [] 0 k l → Answered order got p a i then q c l
+alone_answered order got then xs passed p q a c i k l heard since t shown =
+    let hs = headers_of since.came in
+    let last = t.ends.drains.drains.rounds ++ Trimmed ∷ [] in
+    let all = returning hs ++ (offering xs ++ last) in
+    let back : PassesOver hs a i t.given t.noted = subst (λ (l : List (List ℕ)). PassesOver l a i t.given t.noted) since.headers_are t.passes in
+    let after : Reports (offering xs ++ last) 0 p t.given t.noted q c k =
+    reports_both (offering xs) last 0 0 0 p t.answered q t.given t.between c t.noted t.then k refl t.reports
+    (reports_end t.answered q t.between c t.then k t.ends) in
+    let reports : Reports all (length hs) p a i q c k =
+    reports_both (returning hs) (offering xs ++ last) (length hs) 0 (length hs) p p q a t.given c i t.noted k (sym (add-zero (length hs))) (back p) after in
     record {
-      requests = xs;
-      passed = n;
-      requests_are = heard;
-      passed_are = passed;
+      came = readings_of since.came;
+      came_are = ap readings_of since.came_are ∙ readings_of_append got since.came;
       reports = record {
         rounds = all;
-        answers = (
-          offered_in_turn xs last none,
-          of_stream_append order (answering xs) last (answering_is_of_stream order xs)
-              (of_stream_append order rs (Trimmed ∷ []) (retries_are_of_stream order rs d.retries) (tt, tt)),
-        );
-        reports = reports_shown all n p q a c i k l reports shown;
+        answers = subst (λ (ys : List Pairs). AreOfStream order ys hs all) (led_are got then since.came xs since.came_are heard)
+            (stream_in_turn order xs hs last (stream_end order t.answered q t.between c t.then k t.ends));
+        reports = reports_shown all (length hs) p q a c i k l reports shown;
       };
     }
 
 -- up to an error
 
-pub halts_at_once : (xs : List Pairs) (p : Point) (a : Option (List ℕ)) → HaltsInTurn xs p a a
-halts_at_once xs p a = record { retries = []; are_retries = tt; halts = halts_none (answering xs ++ []) p a }
+pub halts_passing : (hs : List (List ℕ)) (xs : List Pairs) (p : Point) (a b : Option (List ℕ)) → Halts (returning hs) p a b
+    → HaltsThen (returning hs ++ offering xs) p a b
+halts_passing hs xs p a b h = record {
+  retries = [];
+  are_retries = tt;
+  halts = halts_before (returning hs ++ offering xs) [] p a b (halts_before (returning hs) (offering xs) p a b h);
+}
 
-pub halts_one : (xs : List Pairs) (p : Point) (a b : Option (List ℕ)) → Halts (answering xs) p a b → HaltsInTurn xs p a b
-halts_one xs p a b h = record { retries = []; are_retries = tt; halts = halts_before (answering xs) [] p a b h }
+pub halts_one : (hs : List (List ℕ)) (xs : List Pairs) (p : Point) (a b c : Option (List ℕ)) (i j : Log) → PassesOver hs a i b j → Halts (offering xs) p b c
+    → HaltsThen (returning hs ++ offering xs) p a c
+halts_one hs xs p a b c i j passes h = record {
+  retries = [];
+  are_retries = tt;
+  halts = halts_before (returning hs ++ offering xs) [] p a c (halts_then (returning hs) (offering xs) p p a b c (passes p).serves h);
+}
 
-pub halts_later : (xs : List Pairs) (p q : Point) (a b c : Option (List ℕ)) → Serves (answering xs) p a q b → DrainsSome q b c → HaltsInTurn xs p a c
-halts_later xs p q a b c serves d = record {
-  retries = d.rounds;
-  are_retries = d.retries;
-  halts = halts_then (answering xs) d.rounds p q a b c serves d.halts;
+pub halts_later : (hs : List (List ℕ)) (xs : List Pairs) (p q : Point) (a b c d : Option (List ℕ)) (i j : Log) → PassesOver hs a i b j
+    → Serves (offering xs) p b q c → DrainsSome q c d → HaltsThen (returning hs ++ offering xs) p a d
+halts_later hs xs p q a b c d i j passes serves drains = record {
+  retries = drains.rounds;
+  are_retries = drains.retries;
+  halts = halts_then (returning hs ++ offering xs) drains.rounds p q a c d
+      (serves_then (returning hs) (offering xs) p p q a b c (passes p).serves serves) drains.halts;
 }
 
 pub halts_unheard : (header : ℕ) (order : ResponseOrder) (input : Option (List ℕ)) (got : List Arrival) (p : Point) (a : Option (List ℕ)) → Heard header input got
@@ -97,27 +115,20 @@ halts_unheard header order input got p a heard = record {
   frames = heard.frames;
   begins = heard.begins;
   later = heard.later;
-  requests_are = heard.requests_are;
+  readings_are = heard.readings_are;
   halts = toward_none (Some order) heard.later p a;
 }
 
-pub halts_alone : (header : ℕ) (order : ResponseOrder) (input : Option (List ℕ)) (got then : List Arrival) (xs : List Pairs) (p : Point) (a b : Option (List ℕ))
-    → Heard header input then → requests_of then ≡ requests_of got ++ xs → HaltsInTurn xs p a b → HaltsHeard header order input got p a b
-halts_alone header order input got then xs p a b heard is h =
+pub halts_alone : (header : ℕ) (order : ResponseOrder) (input : Option (List ℕ)) (got then : List Arrival) (xs : List Pairs) (passed : List PassedOver) (p : Point)
+    (a b : Option (List ℕ)) → Heard header input then → requests_of then ≡ requests_of got ++ xs → CameSince got then passed
+    → HaltsThen (returning (map (λ m. m.header.items) passed) ++ offering xs) p a b → HaltsHeard header order input got p a b
+halts_alone header order input got then xs passed p a b heard is since h =
+    let hs = headers_of since.came in
     let rs = h.retries in
-    let none : offered_in (answering xs ++ rs) ≡ xs = offered_in_turn xs rs (retries_offer_none rs h.are_retries) in
-    record {
-      frames = heard.frames;
-      begins = heard.begins;
-      later = xs ++ heard.later;
-      requests_are = heard.requests_are ∙ (ap (λ (l : List Pairs). l ++ heard.later) is ∙ append_assoc (requests_of got) xs heard.later);
-      halts = (
-        answering xs ++ rs,
-        (
-          heard.later,
-          ap (λ (l : List Pairs). l ++ heard.later) (sym none),
-          of_stream_append order (answering xs) rs (answering_is_of_stream order xs) (retries_are_of_stream order rs h.are_retries),
-        ),
-        h.halts,
-      );
-    }
+    let all = returning hs ++ (offering xs ++ rs) in
+    let joined : Halts ((returning hs ++ offering xs) ++ rs) p a b =
+    subst (λ (l : List (List ℕ)). Halts ((returning l ++ offering xs) ++ rs) p a b) since.headers_are h.halts in
+    halts_since header order input got then since.came p a b all heard since.came_are
+    (subst (λ (ys : List Pairs). AreOfStream order ys hs all) (led_are got then since.came xs since.came_are is)
+    (stream_in_turn order xs hs rs (stream_retries order rs h.are_retries)))
+    (subst (λ (l : List Round). Halts l p a b) (append_assoc (returning hs) (offering xs) rs) joined)

@@ -14,14 +14,14 @@ use Rattle.run_switch.specs.declared.reporter.LineForm.TheVariants.{Text}
 use Rattle.run_switch.specs.Lines.{lines_in, written_as}
 use Rattle.run_switch.specs.Points.{Point, world_at}
 use Rattle.run_switch.specs.Ran.{HasBegun, ServesAll}
-use Rattle.run_input.specs.Requests.{ReadTo, requests}
+use Rattle.run_input.specs.Requests.{ReadTo, readings}
 use Rattle.run_switch.specs.Rounds.{Round, RoundsFor}
 use Rattle.run_switch.specs.Stopped.{GoesOnSome, IsStopped, ServesSome, Serving}
 use Rattle.run_switch.proofs.Stops.{drains_all}
 
 -- all was served, and what comes after it failed
 pub served_all : (header : ℕ) (threads : Option ResponseOrder) (step : AdviceStep) (p : Point) (advisor : PlainAdvisor) (input a b : Option (List ℕ)) (end : StreamEnd)
-    (frames : List (List ℕ)) (rounds : List Round) → ReadTo end input frames → RoundsFor threads (requests header frames) rounds →
+    (frames : List (List ℕ)) (rounds : List Round) → ReadTo end input frames → RoundsFor threads (readings header frames) rounds →
     ServesAll step rounds p advisor a b → Serving header step threads input p advisor a b
 served_all header threads step p advisor input a b end frames rounds read are serves = record {
   begun = serves.begun;

@@ -16,6 +16,7 @@ mod Below
 mod Reporting
 mod LegRounds
 mod Alone
+mod Passing
 mod Leading
 mod Shown
 mod Sayings

@@ -26,9 +26,10 @@ use Rattle.run_switch.specs.declared.progress.Progress.{Progress}
 use Rattle.run_switch.specs.Points.{IsAtRest, IsReady, Point, RestsGiven, all_answered, ended_at, next_at, response_of, unanswered}
 use Rattle.run_responses.specs.Responses.{above, last_id, responses}
 use Rattle.run_switch.specs.Points.{with_ended, world_at}
+use Rattle.run_input.specs.Requests.{Readable, Reading, Unreadable}
 use Rattle.run_switch.specs.Lines.{Line}
-use Rattle.run_switch.specs.Rounds.{Completed, Completes, Does, Goes, IsEmptied, IsRetry, MayCut, Offered, Released, Round, Serves, Streamed, Transacts}
-use Rattle.run_switch.specs.Rounds.{Trimmed, answering}
+use Rattle.run_switch.specs.Rounds.{Completed, Completes, Does, Goes, IsEmptied, IsRetry, MayCut, Offered, Released, Returned, Round, Serves, Streamed}
+use Rattle.run_switch.specs.Rounds.{Transacts, Trimmed, answering, if_header}
 use Rattle.run_switch.specs.Traces.{Cuts, DrainsAll, IsLive, Log, Reports, Tells}
 use Rattle.tx_engine.specs.World.{World}
 use Rattle.run_responses.proofs.Ended.{is_above}
@@ -53,6 +54,8 @@ goes_append (Completed ∷ ds) bs p q r xs ys ls ms (w, first, later, cut, other
   ap (λ (l : List ℕ). l ++ ys) all ∙ append_assoc first later ys,
   ap (λ (l : List Line). l ++ ms) these ∙ append_assoc cut others ms,
 )
+goes_append (Returned n ∷ ds) bs p q r xs ys ls ms (first, later, framed, more, all) h =
+    (first, later ++ ys, framed, goes_append ds bs p q r later ys ls ms more h, ap (λ (l : List ℕ). l ++ ys) all ∙ append_assoc first later ys)
 goes_append (Released ∷ ds) bs p q r xs ys ls ms (o, w, does, more) h =
     (o, w, does, goes_append ds bs w q r xs ys ls ms more h)
 goes_append (Streamed order rs ∷ ds) bs p q r xs ys ls ms (ready, w, first, later, runs, more, all) h =
@@ -77,6 +80,16 @@ serves_offer x o p w q ds a b ready does s = record { bytes = s.bytes; lines = s
 
 abbrev pub serves_release : (o : Outcome) (p q : Point) (a : Option (List ℕ)) → Does turn.Release o p q → Serves (Released ∷ []) p a q a
 serves_release o p q a does = record { bytes = []; lines = []; goes = (o, q, does, (refl, refl, refl)); appends = Appends-nil a }
+
+-- a header is given back
+abbrev pub serves_returned : (n : List ℕ) (p : Point) (text : List ℕ) (a b : Option (List ℕ)) → AreFramed text (if_header n) → Appends a b text →
+    Serves (Returned n ∷ []) p a p b
+serves_returned n p text a b framed appends = record {
+  bytes = text;
+  lines = [];
+  goes = (text, [], framed, (refl, refl, refl), sym (append-nil text));
+  appends = appends;
+}
 
 abbrev pub serves_completed : (p q : Point) (bytes : List ℕ) (lines : List Line) (a b : Option (List ℕ)) → Completes p bytes lines q → Appends a b bytes →
     Serves (Completed ∷ []) p a q b
@@ -187,9 +200,10 @@ the_completed p q a b s = by_goes s.goes where
 
 -- requests
 
-pub answering_append : (xs ys : List Pairs) → answering (xs ++ ys) ≡ answering xs ++ answering ys
+pub answering_append : (xs ys : List Reading) → answering (xs ++ ys) ≡ answering xs ++ answering ys
 answering_append [] ys = refl
-answering_append (x ∷ xs) ys = ap (λ (l : List Round). Offered x ∷ Completed ∷ l) (answering_append xs ys)
+answering_append (Readable x ∷ xs) ys = ap (λ (l : List Round). Offered x ∷ Completed ∷ l) (answering_append xs ys)
+answering_append (Unreadable h ∷ xs) ys = ap (λ (l : List Round). Returned h ∷ l) (answering_append xs ys)
 
 -- what was written to standard error
 

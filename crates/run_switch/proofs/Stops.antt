@@ -11,17 +11,16 @@ use Rattle.cli_io.proofs.Writing.{beginning_all, beginning_none}
 use Rattle.sw_context.specs.Pairs.{Pairs}
 use Rattle.sw_frame.specs.Feeds.{messages}
 use Rattle.sw_frame.specs.Stream.{AreFramed, State}
-use Rattle.iso_codec.specs.Reads.{read}
 use Rattle.tx_plant.specs.declared.turn.Outcome.{Outcome}
 use Rattle.tx_plant.specs.declared.turn.Turn.TheVariants as turn
 use Rattle.run_switch.specs.Points.{IsAtRest, IsReady, Point, unanswered}
 use Rattle.run_responses.specs.Responses.{responses}
-use Rattle.run_input.specs.Requests.{Reads, ReadsOn, if_read, message_in, request_of, requests}
-use Rattle.run_switch.specs.Rounds.{Completed, Does, Drains, IsOfStream, IsRetry, Offered, Released, Round, RoundsFor, Serves, ServesFor, Streamed}
-use Rattle.run_switch.specs.Rounds.{Transacts, Trimmed, answering, offered_in, untrimmed}
+use Rattle.run_input.specs.Requests.{Readable, Reading, Reads, ReadsOn, Unreadable, headers_in, reading_of, readings, requests_in}
+use Rattle.run_switch.specs.Rounds.{AreOfStream, Completed, Does, Drains, IsOfStream, IsRetry, Offered, Released, Returned, Round, RoundsFor, Serves, Streamed}
+use Rattle.run_switch.specs.Rounds.{Transacts, Trimmed, answering, if_header, offered_in, returned_in, untrimmed}
 use Rattle.run_responses.specs.declared.sink.ResponseOrder.{ResponseOrder}
 use Rattle.run_switch.specs.Stopped.{DrainsSome, GivesSome, Halts, HaltsOn, HaltsToward, IsOfNext}
-use Rattle.run_input.proofs.Readings.{requests_front, requests_next}
+use Rattle.run_input.proofs.Readings.{headers_in_append, readings_front, readings_next, requests_in_append}
 use Rattle.run_switch.specs.Traces.{Log}
 use Rattle.run_switch.proofs.Rounds.{Empties, answering_append, gives_own, retries_append, serves_none, serves_offer, serves_then}
 
@@ -29,6 +28,7 @@ pub nothing_next : (rounds : List Round) (p : Point) → IsOfNext rounds p []
 nothing_next [] p = refl
 nothing_next (Offered x ∷ rounds) p = refl
 nothing_next (Completed ∷ rounds) p = inl refl
+nothing_next (Returned h ∷ rounds) p = inl refl
 nothing_next (Released ∷ rounds) p = refl
 nothing_next (Streamed order xs ∷ rounds) p = inl refl
 nothing_next (Trimmed ∷ rounds) p = refl
@@ -79,6 +79,7 @@ more_next : (rounds others : List Round) (p : Point) (text : List ℕ) → IsOfN
 more_next [] others p text none = subst (IsOfNext others p) (sym none) (nothing_next others p)
 more_next (Offered x ∷ rounds) others p text h = h
 more_next (Completed ∷ rounds) others p text h = h
+more_next (Returned n ∷ rounds) others p text h = h
 more_next (Released ∷ rounds) others p text h = h
 more_next (Streamed order xs ∷ rounds) others p text h = h
 more_next (Trimmed ∷ rounds) others p text h = h
@@ -111,6 +112,21 @@ halts_offer x o p w ds a b ready does h = record {
   written = h.written;
 }
 
+-- a header was to be given back
+pub halts_returned : (n : List ℕ) (p : Point) (text : List ℕ) (a b : Option (List ℕ)) → (text ≡ []) ⊎ AreFramed text (if_header n) → AppendsBeginning a b text
+    → Halts (Returned n ∷ []) p a b
+halts_returned n p text a b is written = record {
+  done = [];
+  rest = Returned n ∷ [];
+  order = refl;
+  at = p;
+  between = a;
+  serves = serves_none p a;
+  next = text;
+  is_next = is;
+  written = written;
+}
+
 halts_next : (p : Point) (text : List ℕ) (a b : Option (List ℕ)) → IsOfNext (Completed ∷ []) p text → AppendsBeginning a b text → Halts (Completed ∷ []) p a b
 halts_next p text a b is written = record {
   done = [];
@@ -136,14 +152,14 @@ pub halts_given : (own : Option Pairs) (text : List ℕ) (p q : Point) (a b : Op
 halts_given own text p q a b rest transacts framed written =
     halts_gives own p q a b rest transacts (text, inr framed, beginning_all a b text written)
 
--- requests
+-- what is read
 
-pub halts_answering : (xs ys : List Pairs) (p q : Point) (a b c : Option (List ℕ)) → Serves (answering xs) p a q b → Halts (answering ys) q b c →
+pub halts_answering : (xs ys : List Reading) (p q : Point) (a b c : Option (List ℕ)) → Serves (answering xs) p a q b → Halts (answering ys) q b c →
     Halts (answering (xs ++ ys)) p a c
 halts_answering xs ys p q a b c serves h =
     subst (λ (l : List Round). Halts l p a c) (sym (answering_append xs ys)) (halts_then (answering xs) (answering ys) p q a b c serves h)
 
-pub halts_answers : (xs ys : List Pairs) (p : Point) (a b : Option (List ℕ)) → Halts (answering xs) p a b → Halts (answering (xs ++ ys)) p a b
+pub halts_answers : (xs ys : List Reading) (p : Point) (a b : Option (List ℕ)) → Halts (answering xs) p a b → Halts (answering (xs ++ ys)) p a b
 halts_answers xs ys p a b h =
     subst (λ (l : List Round). Halts l p a b) (sym (answering_append xs ys)) (halts_before (answering xs) (answering ys) p a b h)
 
@@ -153,9 +169,19 @@ pub offered_append : (rs ss : List Round) → offered_in (rs ++ ss) ≡ offered_
 offered_append [] ss = refl
 offered_append (Offered x ∷ rs) ss = ap (λ (l : List Pairs). x ∷ l) (offered_append rs ss)
 offered_append (Completed ∷ rs) ss = offered_append rs ss
+offered_append (Returned h ∷ rs) ss = offered_append rs ss
 offered_append (Released ∷ rs) ss = offered_append rs ss
 offered_append (Streamed order xs ∷ rs) ss = ap (λ (l : List Pairs). xs ++ l) (offered_append rs ss) ∙ sym (append_assoc xs (offered_in rs) (offered_in ss))
 offered_append (Trimmed ∷ rs) ss = offered_append rs ss
+
+pub returned_append : (rs ss : List Round) → returned_in (rs ++ ss) ≡ returned_in rs ++ returned_in ss
+returned_append [] ss = refl
+returned_append (Offered x ∷ rs) ss = returned_append rs ss
+returned_append (Completed ∷ rs) ss = returned_append rs ss
+returned_append (Returned h ∷ rs) ss = ap (λ (l : List (List ℕ)). h ∷ l) (returned_append rs ss)
+returned_append (Released ∷ rs) ss = returned_append rs ss
+returned_append (Streamed order xs ∷ rs) ss = returned_append rs ss
+returned_append (Trimmed ∷ rs) ss = returned_append rs ss
 
 pub of_stream_append : (order : ResponseOrder) (rs ss : List Round) → AllByRecursion (IsOfStream order) rs → AllByRecursion (IsOfStream order) ss
     → AllByRecursion (IsOfStream order) (rs ++ ss)
@@ -166,6 +192,7 @@ pub retries_are_of_stream : (order : ResponseOrder) (rs : List Round) → AllByR
 retries_are_of_stream order [] h = tt
 retries_are_of_stream order (Offered x ∷ rs) h = absurd h.0
 retries_are_of_stream order (Completed ∷ rs) h = (tt, retries_are_of_stream order rs h.1)
+retries_are_of_stream order (Returned n ∷ rs) h = absurd h.0
 retries_are_of_stream order (Released ∷ rs) h = (tt, retries_are_of_stream order rs h.1)
 retries_are_of_stream order (Streamed own xs ∷ rs) h = absurd h.0
 retries_are_of_stream order (Trimmed ∷ rs) h = absurd h.0
@@ -174,68 +201,92 @@ pub retries_offer_none : (rs : List Round) → AllByRecursion IsRetry rs → off
 retries_offer_none [] h = refl
 retries_offer_none (Offered x ∷ rs) h = absurd h.0
 retries_offer_none (Completed ∷ rs) h = retries_offer_none rs h.1
+retries_offer_none (Returned n ∷ rs) h = absurd h.0
 retries_offer_none (Released ∷ rs) h = retries_offer_none rs h.1
 retries_offer_none (Streamed order xs ∷ rs) h = absurd h.0
 retries_offer_none (Trimmed ∷ rs) h = absurd h.0
+
+pub retries_return_none : (rs : List Round) → AllByRecursion IsRetry rs → returned_in rs ≡ []
+retries_return_none [] h = refl
+retries_return_none (Offered x ∷ rs) h = absurd h.0
+retries_return_none (Completed ∷ rs) h = retries_return_none rs h.1
+retries_return_none (Returned n ∷ rs) h = absurd h.0
+retries_return_none (Released ∷ rs) h = retries_return_none rs h.1
+retries_return_none (Streamed order xs ∷ rs) h = absurd h.0
+retries_return_none (Trimmed ∷ rs) h = absurd h.0
+
+-- rounds of a stream, and further ones
+pub stream_append : (order : ResponseOrder) (xs ys : List Pairs) (hs gs : List (List ℕ)) (rs ss : List Round) → AreOfStream order xs hs rs
+    → AreOfStream order ys gs ss → AreOfStream order (xs ++ ys) (hs ++ gs) (rs ++ ss)
+stream_append order xs ys hs gs rs ss is are = record {
+  offered = offered_append rs ss ∙ (ap (λ (l : List Pairs). l ++ offered_in ss) is.offered ∙ ap (λ (l : List Pairs). xs ++ l) are.offered);
+  returned = returned_append rs ss ∙ (ap (λ (l : List (List ℕ)). l ++ returned_in ss) is.returned ∙ ap (λ (l : List (List ℕ)). hs ++ l) are.returned);
+  of_stream = of_stream_append order rs ss is.of_stream are.of_stream;
+}
+
+stream_none : (order : ResponseOrder) → AreOfStream order [] [] []
+stream_none order = record { offered = refl; returned = refl; of_stream = tt }
+
+-- retries offer nothing, and give nothing back
+pub stream_retries : (order : ResponseOrder) (rs : List Round) → AllByRecursion IsRetry rs → AreOfStream order [] [] rs
+stream_retries order rs h = record { offered = retries_offer_none rs h; returned = retries_return_none rs h; of_stream = retries_are_of_stream order rs h }
+
+pub stream_trimmed : (order : ResponseOrder) → AreOfStream order [] [] (Trimmed ∷ [])
+stream_trimmed order = record { offered = refl; returned = refl; of_stream = (tt, tt) }
 
 pub untrimmed_append : (rs ss : List Round) → untrimmed (rs ++ ss) ≡ untrimmed rs ++ untrimmed ss
 untrimmed_append [] ss = refl
 untrimmed_append (Offered x ∷ rs) ss = ap (λ (l : List Round). Offered x ∷ l) (untrimmed_append rs ss)
 untrimmed_append (Completed ∷ rs) ss = ap (λ (l : List Round). Completed ∷ l) (untrimmed_append rs ss)
+untrimmed_append (Returned h ∷ rs) ss = ap (λ (l : List Round). Returned h ∷ l) (untrimmed_append rs ss)
 untrimmed_append (Released ∷ rs) ss = ap (λ (l : List Round). Released ∷ l) (untrimmed_append rs ss)
 untrimmed_append (Streamed order xs ∷ rs) ss = ap (λ (l : List Round). Streamed order xs ∷ l) (untrimmed_append rs ss)
 untrimmed_append (Trimmed ∷ rs) ss = untrimmed_append rs ss
 
-pub untrimmed_answering : (xs : List Pairs) → untrimmed (answering xs) ≡ answering xs
+pub untrimmed_answering : (xs : List Reading) → untrimmed (answering xs) ≡ answering xs
 untrimmed_answering [] = refl
-untrimmed_answering (x ∷ xs) = ap (λ (l : List Round). Offered x ∷ Completed ∷ l) (untrimmed_answering xs)
+untrimmed_answering (Readable x ∷ xs) = ap (λ (l : List Round). Offered x ∷ Completed ∷ l) (untrimmed_answering xs)
+untrimmed_answering (Unreadable h ∷ xs) = ap (λ (l : List Round). Returned h ∷ l) (untrimmed_answering xs)
 
-both_answering : (xs ys : List Pairs) (rs ss : List Round) → untrimmed rs ≡ answering xs → untrimmed ss ≡ answering ys →
+both_answering : (xs ys : List Reading) (rs ss : List Round) → untrimmed rs ≡ answering xs → untrimmed ss ≡ answering ys →
     untrimmed (rs ++ ss) ≡ answering (xs ++ ys)
 both_answering xs ys rs ss is are = untrimmed_append rs ss ∙ (rw (is, are) (sym (answering_append xs ys)))
 
-pub rounds_append : (threads : Option ResponseOrder) (xs ys : List Pairs) (rs ss : List Round) → RoundsFor threads xs rs → RoundsFor threads ys ss →
+pub rounds_append : (threads : Option ResponseOrder) (xs ys : List Reading) (rs ss : List Round) → RoundsFor threads xs rs → RoundsFor threads ys ss →
     RoundsFor threads (xs ++ ys) (rs ++ ss)
 rounds_append None xs ys rs ss is are = both_answering xs ys rs ss is are
-rounds_append (Some order) xs ys rs ss is are = (rw (sym is.0, sym are.0) (offered_append rs ss), of_stream_append order rs ss is.1 are.1)
+rounds_append (Some order) xs ys rs ss is are =
+    subst (λ (l : List Pairs). AreOfStream order l (headers_in (xs ++ ys)) (rs ++ ss)) (sym (requests_in_append xs ys))
+    (subst (λ (l : List (List ℕ)). AreOfStream order (requests_in xs ++ requests_in ys) l (rs ++ ss)) (sym (headers_in_append xs ys))
+    (stream_append order (requests_in xs) (requests_in ys) (headers_in xs) (headers_in ys) rs ss is are))
 
 pub rounds_none : (threads : Option ResponseOrder) → RoundsFor threads [] []
 rounds_none None = refl
-rounds_none (Some order) = (refl, tt)
+rounds_none (Some order) = stream_none order
 
-pub toward_none : (threads : Option ResponseOrder) (xs : List Pairs) (p : Point) (a : Option (List ℕ)) → HaltsToward threads xs p a a
+pub toward_none : (threads : Option ResponseOrder) (xs : List Reading) (p : Point) (a : Option (List ℕ)) → HaltsToward threads xs p a a
 toward_none None xs p a = (answering xs, untrimmed_answering xs, halts_none (answering xs) p a)
-toward_none (Some order) xs p a = ([], (xs, refl, tt), halts_none [] p a)
+toward_none (Some order) xs p a = ([], ([], [], requests_in xs, headers_in xs, refl, refl, stream_none order), halts_none [] p a)
 
-pub toward_then : (threads : Option ResponseOrder) (xs ys : List Pairs) (p q : Point) (a b c : Option (List ℕ)) → ServesFor threads xs p a q b →
-    HaltsToward threads ys q b c → HaltsToward threads (xs ++ ys) p a c
-toward_then None xs ys p q a b c (rs, is, s) (ss, are, h) = (rs ++ ss, both_answering xs ys rs ss is are, halts_then rs ss p q a b c s h)
-toward_then (Some order) xs ys p q a b c (rs, is, s) (ss, (later, split, all), h) = (
-  rs ++ ss,
-  (
-    later,
-    ap (λ (l : List Pairs). xs ++ l) split ∙ (ap (λ (l : List Pairs). l ++ (offered_in ss ++ later)) (sym is.0)
-        ∙ (sym (append_assoc (offered_in rs) (offered_in ss) later) ∙ ap (λ (l : List Pairs). l ++ later) (sym (offered_append rs ss)))),
-    of_stream_append order rs ss is.1 all,
-  ),
-  halts_then rs ss p q a b c s h,
-)
-
-pub toward_before : (threads : Option ResponseOrder) (xs ys : List Pairs) (p : Point) (a b : Option (List ℕ)) → HaltsToward threads xs p a b →
-    HaltsToward threads (xs ++ ys) p a b
-toward_before None xs ys p a b (rs, is, h) = (
-  rs ++ answering ys,
-  both_answering xs ys rs (answering ys) is (untrimmed_answering ys),
-  halts_before rs (answering ys) p a b h,
-)
-toward_before (Some order) xs ys p a b (rs, (later, split, all), h) = (
+-- these rounds were on the way to more than they answered
+pub toward_stream : (order : ResponseOrder) (xs ys : List Reading) (rs : List Round) (p : Point) (a b : Option (List ℕ))
+    → AreOfStream order (requests_in xs) (headers_in xs) rs → Halts rs p a b → HaltsToward (Some order) (xs ++ ys) p a b
+toward_stream order xs ys rs p a b is h = (
   rs,
-  (later ++ ys, ap (λ (l : List Pairs). l ++ ys) split ∙ append_assoc (offered_in rs) later ys, all),
+  (
+    requests_in xs,
+    headers_in xs,
+    requests_in ys,
+    headers_in ys,
+    requests_in_append xs ys,
+    headers_in_append xs ys,
+    is,
+  ),
   h,
 )
 
 -- one after the other
-pub toward_answering : (xs : List Pairs) (p : Point) (a b : Option (List ℕ)) → Halts (answering xs) p a b → HaltsToward None xs p a b
+pub toward_answering : (xs : List Reading) (p : Point) (a b : Option (List ℕ)) → Halts (answering xs) p a b → HaltsToward None xs p a b
 toward_answering xs p a b h = (answering xs, untrimmed_answering xs, h)
 
 -- the queue and the shelf
@@ -274,22 +325,23 @@ on_err_of (Ok x) h = tt
 on_err_of (Err e) h = h
 
 -- one message of a list, after those before it
-pub halts_message : (header : ℕ) (list : List (Vec ℕ)) (i : ℕ) (m : Vec ℕ) (bytes : List ℕ) (p q : Point) (a b c : Option (List ℕ)) → i < length list →
-    m ≡ get_or list i m → bytes ≡ m.items
-    → Serves (answering (requests header (messages (take i list)))) p a q b → Halts (answering (map (request_of header) (if_read (read (message_in header bytes)) bytes))) q b c →
-    Halts (answering (requests header (messages list))) p a c
-halts_message header list i m bytes p q a b c lt at is serves h =
-    let first : Halts (answering (requests header (messages (take i list)) ++ map (request_of header) (if_read (read (message_in header bytes)) bytes))) p a c =
-    halts_answering (requests header (messages (take i list))) (map (request_of header) (if_read (read (message_in header bytes)) bytes)) p q a b c serves h in
-    let here : Halts (answering (requests header (messages (take (i + 1) list)))) p a c =
-    subst (λ (l : List Pairs). Halts (answering l) p a c) (sym (requests_next header list i m bytes lt at is)) first in
-    subst (λ (l : List Pairs). Halts (answering l) p a c) (sym (requests_front header list (i + 1)))
-    (halts_answers (requests header (messages (take (i + 1) list))) (requests header (messages (drop (i + 1) list))) p a c here)
+pub halts_message : (header : ℕ) (list : List (Vec ℕ)) (i : ℕ) (m : Vec ℕ) (bytes : List ℕ) (read : List Reading) (p q : Point) (a b c : Option (List ℕ))
+    → i < length list → m ≡ get_or list i m → bytes ≡ m.items → read ≡ reading_of header bytes ∷ []
+    → Serves (answering (readings header (messages (take i list)))) p a q b → Halts (answering read) q b c →
+    Halts (answering (readings header (messages list))) p a c
+halts_message header list i m bytes read p q a b c lt at is same serves h =
+    let first : Halts (answering (readings header (messages (take i list)) ++ read)) p a c =
+    halts_answering (readings header (messages (take i list))) read p q a b c serves h in
+    let here : Halts (answering (readings header (messages (take (i + 1) list)))) p a c =
+    subst (λ (l : List Reading). Halts (answering l) p a c)
+    (ap (λ (l : List Reading). readings header (messages (take i list)) ++ l) same ∙ sym (readings_next header list i m bytes lt at is)) first in
+    subst (λ (l : List Reading). Halts (answering l) p a c) (sym (readings_front header list (i + 1)))
+    (halts_answers (readings header (messages (take (i + 1) list))) (readings header (messages (drop (i + 1) list))) p a c here)
 
 -- a piece of an input
 
 pub halts_reads : (header : ℕ) (threads : Option ResponseOrder) (left then : Option (List ℕ)) (more : List (List ℕ)) (s t : State) (p : Point) (a b : Option (List ℕ)) →
-    ReadsOn left s more then t → HaltsToward threads (requests header more) p a b → HaltsOn header threads left s p a b
+    ReadsOn left s more then t → HaltsToward threads (readings header more) p a b → HaltsOn header threads left s p a b
 halts_reads header threads left then more s t p a b on h = λ input frames reads. (more, record { left = then; state = t; reads = on input frames reads }, h)
 
 pub halts_unread : (header : ℕ) (threads : Option ResponseOrder) (left : Option (List ℕ)) (s : State) (p : Point) (a : Option (List ℕ)) → HaltsOn header threads left s p a a

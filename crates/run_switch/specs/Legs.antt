@@ -3,15 +3,14 @@
 -- - *Legs* (`Legs.antt`): rounds, and then advices that are sent, one after the other.
 --   *Advances*: legs, and then the last rounds. *Stage*: a switch, what sends its advices, and
 --   what an output holds.
-use Rattle.std.specs.Prelude.{◌≡◌, ℕ, List, [], ◌∷◌, ◌++◌, Option, Some}
-use Rattle.sw_context.specs.Pairs.{Pairs}
+use Rattle.std.specs.Prelude.{◌≡◌, ℕ, List, [], ◌∷◌, ◌++◌, length, Option, Some}
 use Rattle.run_input.specs.declared.arrival.Arrival.{Arrival}
-use Rattle.run_input.specs.Arrivals.{passed_of, requests_of}
+use Rattle.run_input.specs.Arrivals.{readings_of}
 use Rattle.run_responses.specs.declared.sink.ResponseOrder.{ResponseOrder}
 use Rattle.run_switch.specs.Advices.{AdviceStep, Between, PlainAdvisor}
 use Rattle.run_switch.specs.Lines.{Line}
 use Rattle.run_switch.specs.Points.{Point}
-use Rattle.run_input.specs.Requests.{passed_over, requests}
+use Rattle.run_input.specs.Requests.{Reading, headers_in, readings}
 use Rattle.run_switch.specs.Rounds.{Round, RoundsFor, Serves}
 use Rattle.run_switch.specs.Traces.{Log, Tells}
 
@@ -58,18 +57,17 @@ pub record Advances (step : AdviceStep) (rounds : List Round) (x y : Stage) : Ty
 abbrev pub lines_of : {step : AdviceStep} {rounds : List Round} {x y : Stage} → Advances step rounds x y → List Line
 lines_of a = a.lines ++ a.serves.lines
 
--- these requests were answered, and this many messages passed over
-pub record AdvancesWith (step : AdviceStep) (threads : Option ResponseOrder) (requests : List Pairs) (passed : ℕ) (x : Stage) (a : Log) (y : Stage) (b : Log) :
-    Type 0 where
+-- what was read was answered, or passed over
+pub record AdvancesWith (step : AdviceStep) (threads : Option ResponseOrder) (read : List Reading) (x : Stage) (a : Log) (y : Stage) (b : Log) : Type 0 where
   pub rounds : List Round
-  pub answers : RoundsFor threads requests rounds
+  pub answers : RoundsFor threads read rounds
   pub advances : Advances step rounds x y
-  pub tells : Tells (lines_of advances) passed a b
+  pub tells : Tells (lines_of advances) (length (headers_in read)) a b
 
 -- the messages of these frames were answered, or passed over
 abbrev pub AdvancesFor : ℕ → AdviceStep → Option ResponseOrder → List (List ℕ) → Stage → Log → Stage → Log → Type 0
-AdvancesFor header step threads frames x a y b = AdvancesWith step threads (requests header frames) (passed_over header frames) x a y b
+AdvancesFor header step threads frames x a y b = AdvancesWith step threads (readings header frames) x a y b
 
 -- what came of an input was answered, or passed over
 abbrev pub AdvancesBy : AdviceStep → ResponseOrder → List Arrival → Stage → Log → Stage → Log → Type 0
-AdvancesBy step order got x a y b = AdvancesWith step (Some order) (requests_of got) (passed_of got) x a y b
+AdvancesBy step order got x a y b = AdvancesWith step (Some order) (readings_of got) x a y b

@@ -2,13 +2,13 @@
 --
 -- - *Recovers, transacts, completes, drains* (`Rounds.antt`): a recovery; one transaction from
 --   its take to its end; the same with its response given and a long history cut; the queue and
---   the shelf emptied. *Round*: a request offered, a transaction completed, the shelf released, a
---   leg run, or the history cut; *goes*: rounds one after the other, with the bytes that they give.
+--   the shelf emptied. *Round*: a request offered, a transaction completed, a header given back, the
+--   shelf released, a leg run, or the history cut; *goes*: rounds one after the other, with the bytes that they give.
 --   Each is a list of calls of `drive`, as `tx_seats` has them.
 -- - *Together* (`Rounds.antt`): the requests of a leg, offered in their order and run by all
 --   sessions until nothing is left to do. *Runs*: the same with the responses of its transactions.
 --   *Finishes*: what comes after, which is the shelf, and a cut that may be made.
--- - *Rounds for* some requests: each offered and completed before the next; or, with threads, some
+-- - *Rounds for* what was read: each request offered and completed before the next; or, with threads, some
 --   of them like this and others in legs, in their order. *Rounds toward* them: the same, where the
 --   last ones were not reached.
 use Rattle.std.specs.Prelude.{◌≡◌, ◌⊎◌, ℕ, ◌+◌, ⊤, false, List, [], ◌∷◌, ◌++◌, map, drop, Option, Some, None}
@@ -31,6 +31,7 @@ use Rattle.tx_locked.specs.Finished.{finished_in}
 use Rattle.tx_locked.specs.Receipts.{offered_of, run_entries}
 use Rattle.tx_locked.specs.Settled.{IsSettled}
 use Rattle.tx_pool.specs.Went.{Grown}
+use Rattle.run_input.specs.Requests.{Readable, Reading, Unreadable, headers_in, requests_in}
 use Rattle.run_responses.specs.declared.sink.ResponseOrder.{ResponseOrder}
 use Rattle.run_responses.specs.declared.sink.ResponseOrder.TheVariants.{ByEnd, ById}
 use Rattle.run_responses.specs.Giving.{AreFound}
@@ -117,9 +118,15 @@ pub record Runs (order : ResponseOrder) (requests : List Pairs) (p : Point) (byt
 pub data Round : Type 0 where
   Offered : (request : Pairs) → Round
   Completed : Round
+  Returned : (header : List ℕ) → Round
   Released : Round
   Streamed : (order : ResponseOrder) → (requests : List Pairs) → Round
   Trimmed : Round
+
+-- the header that is given back; one without bytes is not
+abbrev pub if_header : List ℕ → List (List ℕ)
+if_header [] = []
+if_header (byte ∷ more) = (byte ∷ more) ∷ []
 
 -- One after the other, with what they give, and the lines of the entries that are cut. A request is offered, or a leg begun, only
 -- when the switch is ready for it.
@@ -129,16 +136,29 @@ Goes (Offered x ∷ rs) p bytes lines q = IsReady p × (o : Outcome) × (w : Poi
 Goes (Completed ∷ rs) p bytes lines q =
     (w : Point) × (first : List ℕ) × (later : List ℕ) × (cut : List Line) × (others : List Line)
     × Completes p first cut w × Goes rs w later others q × (bytes ≡ first ++ later) × (lines ≡ cut ++ others)
+Goes (Returned h ∷ rs) p bytes lines q =
+    (first : List ℕ) × (later : List ℕ) × AreFramed first (if_header h) × Goes rs p later lines q × (bytes ≡ first ++ later)
 Goes (Released ∷ rs) p bytes lines q = (o : Outcome) × (w : Point) × Does turn.Release o p w × Goes rs w bytes lines q
 Goes (Streamed order xs ∷ rs) p bytes lines q = IsReady p × (w : Point) × (first : List ℕ) × (later : List ℕ) × Runs order xs p first w
     × Goes rs w later lines q × (bytes ≡ first ++ later)
 Goes (Trimmed ∷ rs) p bytes lines q = (w : Point) × (cut : List Line) × (others : List Line) × MayCut p cut w × Goes rs w bytes others q
     × (lines ≡ cut ++ others)
 
--- each request is offered, and the queue's first transaction runs to its end before the next is
-abbrev pub answering : List Pairs → List Round
+-- each request is offered, and the queue's first transaction runs to its end before the next is; of a message that cannot be read the
+-- header is given back
+abbrev pub answering : List Reading → List Round
 answering [] = []
-answering (x ∷ xs) = Offered x ∷ Completed ∷ answering xs
+answering (Readable x ∷ rs) = Offered x ∷ Completed ∷ answering rs
+answering (Unreadable h ∷ rs) = Returned h ∷ answering rs
+
+-- the requests alone
+abbrev pub offering : List Pairs → List Round
+offering [] = []
+offering (x ∷ xs) = Offered x ∷ Completed ∷ offering xs
+
+-- the headers alone
+abbrev pub returning : List (List ℕ) → List Round
+returning hs = map Returned hs
 
 -- without the cuts between two transactions
 abbrev pub untrimmed : List Round → List Round
@@ -164,6 +184,12 @@ offered_in (Offered x ∷ rs) = x ∷ offered_in rs
 offered_in (Streamed order xs ∷ rs) = xs ++ offered_in rs
 offered_in (_ ∷ rs) = offered_in rs
 
+-- the headers that are given back, in their order
+abbrev pub returned_in : List Round → List (List ℕ)
+returned_in [] = []
+returned_in (Returned h ∷ rs) = h ∷ returned_in rs
+returned_in (_ ∷ rs) = returned_in rs
+
 -- rounds, with what an output holds before and after, where that is known, and the lines of the entries that are cut
 pub record Serves (rounds : List Round) (p : Point) (before : Option (List ℕ)) (q : Point) (after : Option (List ℕ)) : Type 0 where
   pub bytes : List ℕ
@@ -171,20 +197,27 @@ pub record Serves (rounds : List Round) (p : Point) (before : Option (List ℕ))
   pub goes : Goes rounds p bytes lines q
   pub appends : Appends before after bytes
 
--- Rounds that answer these requests: without threads one after the other, with threads one after the other or in legs, whose responses
+-- with threads: these requests are offered and these headers given back, each in its order, and the responses of each leg leave in this order
+pub record AreOfStream (order : ResponseOrder) (requests : List Pairs) (headers : List (List ℕ)) (rounds : List Round) : Type 0 where
+  pub offered : offered_in rounds ≡ requests
+  pub returned : returned_in rounds ≡ headers
+  pub of_stream : AllByRecursion (IsOfStream order) rounds
+
+-- Rounds that answer what was read: without threads one after the other, with threads one after the other or in legs, whose responses
 -- leave in the order that is given. The history may be cut between them.
-abbrev pub RoundsFor : Option ResponseOrder → List Pairs → List Round → Type 0
-RoundsFor None requests rounds = untrimmed rounds ≡ answering requests
-RoundsFor (Some order) requests rounds = (offered_in rounds ≡ requests) × AllByRecursion (IsOfStream order) rounds
+abbrev pub RoundsFor : Option ResponseOrder → List Reading → List Round → Type 0
+RoundsFor None read rounds = untrimmed rounds ≡ answering read
+RoundsFor (Some order) read rounds = AreOfStream order (requests_in read) (headers_in read) rounds
 
--- rounds on the way to that: with threads, the last requests may be missing
-abbrev pub RoundsToward : Option ResponseOrder → List Pairs → List Round → Type 0
-RoundsToward None requests rounds = untrimmed rounds ≡ answering requests
-RoundsToward (Some order) requests rounds = (later : List Pairs) × (requests ≡ offered_in rounds ++ later) × AllByRecursion (IsOfStream order) rounds
+-- rounds on the way to that: with threads, the last requests and headers may be missing
+abbrev pub RoundsToward : Option ResponseOrder → List Reading → List Round → Type 0
+RoundsToward None read rounds = untrimmed rounds ≡ answering read
+RoundsToward (Some order) read rounds = (requests : List Pairs) × (headers : List (List ℕ)) × (later : List Pairs) × (behind : List (List ℕ))
+    × (requests_in read ≡ requests ++ later) × (headers_in read ≡ headers ++ behind) × AreOfStream order requests headers rounds
 
--- these requests are answered
-abbrev pub ServesFor : Option ResponseOrder → List Pairs → Point → Option (List ℕ) → Point → Option (List ℕ) → Type 0
-ServesFor threads requests p before q after = (rounds : List Round) × RoundsFor threads requests rounds × Serves rounds p before q after
+-- what was read is answered
+abbrev pub ServesFor : Option ResponseOrder → List Reading → Point → Option (List ℕ) → Point → Option (List ℕ) → Type 0
+ServesFor threads read p before q after = (rounds : List Round) × RoundsFor threads read rounds × Serves rounds p before q after
 
 -- nothing waits
 pub record IsEmptied (w : World) : Type 0 where

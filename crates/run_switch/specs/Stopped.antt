@@ -7,7 +7,7 @@ use Rattle.sw_context.specs.Pairs.{Pairs}
 use Rattle.sw_frame.specs.Stream.{AreFramed, State}
 use Rattle.tx_locked.specs.Finished.{WereKept}
 use Rattle.run_input.specs.declared.arrival.Arrival.{Arrival}
-use Rattle.run_input.specs.Arrivals.{requests_of}
+use Rattle.run_input.specs.Arrivals.{readings_of}
 use Rattle.run_responses.specs.declared.sink.ResponseOrder.{ResponseOrder}
 use Rattle.run_responses.specs.Giving.{AreFound}
 use Rattle.flow_model.specs.declared.flow.Flow.{Flow}
@@ -15,14 +15,14 @@ use Rattle.tx_plant.specs.Plant.{Seen}
 use Rattle.run_input.specs.declared.frames.StreamEnd.{StreamEnd}
 use Rattle.run_switch.specs.Points.{IsReady, Point, ended_at, response_of, unanswered, world_at}
 use Rattle.run_responses.specs.Responses.{responses}
-use Rattle.run_switch.specs.Rounds.{Completed, IsRetry, MayCut, Round, RoundsFor, RoundsToward, Serves, Streamed, Together, Transacts}
+use Rattle.run_switch.specs.Rounds.{Completed, IsRetry, MayCut, Returned, Round, RoundsFor, RoundsToward, Serves, Streamed, Together, Transacts, if_header}
 use Rattle.run_switch.specs.declared.reporter.LineForm.TheVariants.{Text}
 use Rattle.run_switch.specs.Lines.{Line, lines_in, written_as}
 use Rattle.sw_issuers.specs.Sending.{PlainSender}
 use Rattle.run_switch.specs.Advices.{AdviceStep, PlainAdvisor, begun_advisor}
 use Rattle.run_switch.specs.Legs.{Advances, Stage, stage}
 use Rattle.run_switch.specs.Ran.{Begins}
-use Rattle.run_input.specs.Requests.{BeginsWith, ReadTo, Reads, requests}
+use Rattle.run_input.specs.Requests.{BeginsWith, ReadTo, Reading, Reads, readings}
 
 -- the next transaction ran to its end, and this is the frame of its response
 pub record Answers (p : Point) (text : List ℕ) : Type 0 where
@@ -42,9 +42,10 @@ pub record AnswersSome (p : Point) (text : List ℕ) : Type 0 where
   pub had_ended : HadEnded p list
   pub framed : AreFramed text (responses list)
 
--- what the next round was to give: nothing, the response of a transaction that ran to its end, or responses of a leg
+-- what the next round was to give: nothing, the response of a transaction that ran to its end, a header, or responses of a leg
 abbrev pub IsOfNext : List Round → Point → List ℕ → Type 0
 IsOfNext (Completed ∷ rounds) p text = (text ≡ []) ⊎ Answers p text
+IsOfNext (Returned h ∷ rounds) p text = (text ≡ []) ⊎ AreFramed text (if_header h)
 IsOfNext (Streamed order xs ∷ rounds) p text = (text ≡ []) ⊎ AnswersSome p text
 IsOfNext rounds p text = text ≡ []
 
@@ -68,19 +69,19 @@ pub record Halts (rounds : List Round) (p : Point) (before after : Option (List 
   pub is_next : IsOfNext rest at next
   pub written : AppendsBeginning between after next
 
--- some of these requests were answered, with or without threads, up to an error
-abbrev pub HaltsToward : Option ResponseOrder → List Pairs → Point → Option (List ℕ) → Option (List ℕ) → Type 0
-HaltsToward threads requests p before after = (rounds : List Round) × RoundsToward threads requests rounds × Halts rounds p before after
+-- some of what was read was answered, with or without threads, up to an error
+abbrev pub HaltsToward : Option ResponseOrder → List Reading → Point → Option (List ℕ) → Option (List ℕ) → Type 0
+HaltsToward threads read p before after = (rounds : List Round) × RoundsToward threads read rounds × Halts rounds p before after
 
--- of an input read so far, further requests were answered, up to an error
+-- of an input read so far, more was answered, up to an error
 abbrev pub HaltsOn : ℕ → Option ResponseOrder → Option (List ℕ) → State → Point → Option (List ℕ) → Option (List ℕ) → Type 0
 HaltsOn header threads left s p before after = (input : Option (List ℕ)) (frames : List (List ℕ)) → Reads input left frames s
-    → (more : List (List ℕ)) × BeginsWith input (frames ++ more) × HaltsToward threads (requests header more) p before after
+    → (more : List (List ℕ)) × BeginsWith input (frames ++ more) × HaltsToward threads (readings header more) p before after
 
--- the first of these requests were answered, with advices sent between them, and some of the others, up to an error
-pub record HaltsLater (step : AdviceStep) (threads : Option ResponseOrder) (all : List Pairs) (x : Stage) (after : Option (List ℕ)) : Type 0 where
-  pub first : List Pairs
-  pub later : List Pairs
+-- the first of what was read was answered, with advices sent in between, and some of the rest, up to an error
+pub record HaltsLater (step : AdviceStep) (threads : Option ResponseOrder) (all : List Reading) (x : Stage) (after : Option (List ℕ)) : Type 0 where
+  pub first : List Reading
+  pub later : List Reading
   pub order : all ≡ first ++ later
   pub rounds : List Round
   pub answers : RoundsFor threads first rounds
@@ -88,25 +89,25 @@ pub record HaltsLater (step : AdviceStep) (threads : Option ResponseOrder) (all 
   pub advances : Advances step rounds x reached
   pub halts : HaltsToward threads later reached.point reached.out after
 
--- Of an input so much was heard that these came of it; of what may come next some requests were answered, up to an error.
+-- Of an input so much was heard that these came of it; of what may come next some was answered, up to an error.
 pub record HaltsHeard (header : ℕ) (order : ResponseOrder) (input : Option (List ℕ)) (got : List Arrival) (p : Point) (before after : Option (List ℕ)) : Type 0 where
   pub frames : List (List ℕ)
   pub begins : BeginsWith input frames
-  pub later : List Pairs
-  pub requests_are : requests header frames ≡ requests_of got ++ later
+  pub later : List Reading
+  pub readings_are : readings header frames ≡ readings_of got ++ later
   pub halts : HaltsToward (Some order) later p before after
 
--- these requests were answered in turn, and then the queue and the shelf were emptied, up to an error
-pub record HaltsInTurn (requests : List Pairs) (p : Point) (before after : Option (List ℕ)) : Type 0 where
+-- these rounds were done, and then the queue and the shelf were emptied, up to an error
+pub record HaltsThen (rounds : List Round) (p : Point) (before after : Option (List ℕ)) : Type 0 where
   pub retries : List Round
   pub are_retries : AllByRecursion IsRetry retries
-  pub halts : Halts (answering requests ++ retries) p before after
+  pub halts : Halts (rounds ++ retries) p before after
 
--- requests at the beginning of an input were answered, up to an error
+-- what is at the beginning of an input was answered, up to an error
 pub record StopsWithin (header : ℕ) (step : AdviceStep) (threads : Option ResponseOrder) (input : Option (List ℕ)) (x : Stage) (after : Option (List ℕ)) : Type 0 where
   pub frames : List (List ℕ)
   pub begins : BeginsWith input frames
-  pub halts : HaltsLater step threads (requests header frames) x after
+  pub halts : HaltsLater step threads (readings header frames) x after
 
 -- the queue and the shelf were emptied, up to an error
 pub record DrainsSome (p : Point) (before after : Option (List ℕ)) : Type 0 where
@@ -120,7 +121,7 @@ pub record StopsAfter (header : ℕ) (step : AdviceStep) (threads : Option Respo
   pub frames : List (List ℕ)
   pub read : ReadTo end input frames
   pub rounds : List Round
-  pub answers : RoundsFor threads (requests header frames) rounds
+  pub answers : RoundsFor threads (readings header frames) rounds
   pub served : Stage
   pub advances : Advances step rounds x served
   pub drains : DrainsSome served.point served.out after

@@ -1,20 +1,21 @@
 -- What a run writes to standard error: the lines of the trace, and between them a line for each message that is passed over, lines of
 -- numbers, and lines in words, where they are wanted.
-use Rattle.std.specs.Prelude.{◌≡◌, ◌<◌, ℕ, ◌+◌, ◌^◌, Bool, true, false, ◌||◌, List, [], ◌∷◌, ◌++◌, Option, Some, None, is_some, codes}
+use Rattle.std.specs.Prelude.{◌≡◌, ◌<◌, ℕ, ◌+◌, ◌^◌, Bool, true, false, ◌||◌, List, [], ◌∷◌, ◌++◌, length, Option, Some, None, is_some, codes}
 use Rattle.std.specs.Fmt.{decimal}
 use Rattle.std.specs.Io.KnownBytes.{Appends}
 use Rattle.sw_stats.specs.Line.{Numbers, stats_line}
 use Rattle.tx_engine.specs.World.{World}
 use Rattle.sw_context.specs.Pairs.{Pairs}
 use Rattle.run_input.specs.declared.arrival.Arrival.{Arrival}
-use Rattle.run_input.specs.Arrivals.{passed_of, requests_of}
+use Rattle.run_input.specs.Arrivals.{readings_of}
+use Rattle.run_input.specs.Requests.{Reading, headers_in}
 use Rattle.run_responses.specs.declared.sink.ResponseOrder.{ResponseOrder}
 use Rattle.run_switch.specs.declared.reporter.LineForm.{LineForm}
 use Rattle.run_switch.specs.declared.reporter.Reporter.{Reporter}
 use Rattle.run_switch.specs.Lines.{Line, written_as}
 use Rattle.run_switch.specs.Points.{Point, all_answered}
 use Rattle.run_switch.specs.Records.{Recording, Records, recording_of}
-use Rattle.run_switch.specs.Rounds.{Drains, MayCut, Round, RoundsFor, Serves}
+use Rattle.run_switch.specs.Rounds.{Drains, MayCut, Round, RoundsFor, Serves, offering, returning}
 
 -- lines of the trace; or the line of a message that is passed over: its number, and why; or the line of a run's numbers; or lines in
 -- words
@@ -166,46 +167,54 @@ pub record Reports (rounds : List Round) (passed : ℕ) (p : Point) (before : Op
   pub serves : Serves rounds p before q after
   pub tells : Tells serves.lines passed a b
 
--- these requests were answered, and this many messages passed over
-pub record ReportsWith (threads : Option ResponseOrder) (requests : List Pairs) (passed : ℕ) (p : Point) (before : Option (List ℕ)) (a : Log) (q : Point)
+-- what was read was answered, or passed over
+pub record ReportsWith (threads : Option ResponseOrder) (read : List Reading) (p : Point) (before : Option (List ℕ)) (a : Log) (q : Point)
     (after : Option (List ℕ)) (b : Log) : Type 0 where
   pub rounds : List Round
-  pub answers : RoundsFor threads requests rounds
-  pub reports : Reports rounds passed p before a q after b
+  pub answers : RoundsFor threads read rounds
+  pub reports : Reports rounds (length (headers_in read)) p before a q after b
+
+-- messages with these headers are passed over: each has its line, and its header is given back
+abbrev pub PassesOver : List (List ℕ) → Option (List ℕ) → Log → Option (List ℕ) → Log → Type 0
+PassesOver headers before a after b = (p : Point) → Reports (returning headers) (length headers) p before a p after b
 
 -- the queue and the shelf were emptied
 pub record DrainsAll (p : Point) (before : Option (List ℕ)) (a : Log) (q : Point) (after : Option (List ℕ)) (b : Log) : Type 0 where
   pub drains : Drains p before q after
   pub tells : Tells drains.serves.lines 0 a b
 
--- After a leg: the responses of all transactions that ended are given, and this many messages are passed over; the queue and the shelf
--- are emptied, and the history may be cut.
-pub record Finishes (passed : ℕ) (p : Point) (before : Option (List ℕ)) (a : Log) (q : Point) (after : Option (List ℕ)) (b : Log) : Type 0 where
-  pub noted : Log
-  pub tells : Tells [] passed a noted
+-- The queue and the shelf are emptied, and the history may be cut.
+pub record Settles (p : Point) (before : Option (List ℕ)) (a : Log) (q : Point) (after : Option (List ℕ)) (b : Log) : Type 0 where
   pub drained : Point
   pub then : Log
-  pub drains : DrainsAll (all_answered p) before noted drained after then
+  pub drains : DrainsAll p before a drained after then
   pub cuts : Cuts drained then q b
 
--- What came alone was answered in turn, and this many messages passed over; then the queue and the shelf are emptied, and the history may be
--- cut.
-pub record InTurn (requests : List Pairs) (passed : ℕ) (p : Point) (before : Option (List ℕ)) (a : Log) (q : Point) (after : Option (List ℕ)) (b : Log) :
+-- After a leg: the responses of all transactions that ended are given, and messages with these headers are passed over; then what comes at
+-- its end.
+pub record Finishes (headers : List (List ℕ)) (p : Point) (before : Option (List ℕ)) (a : Log) (q : Point) (after : Option (List ℕ)) (b : Log) :
     Type 0 where
-  pub answered : Point
   pub given : Option (List ℕ)
   pub noted : Log
-  pub reports : Reports (answering requests) passed p before a answered given noted
-  pub drained : Point
+  pub passes : PassesOver headers before a given noted
+  pub ends : Settles (all_answered p) given noted q after b
+
+-- What came alone: messages with these headers are passed over, and these requests are answered in turn; then what comes at the end of a
+-- leg.
+pub record InTurn (requests : List Pairs) (headers : List (List ℕ)) (p : Point) (before : Option (List ℕ)) (a : Log) (q : Point)
+    (after : Option (List ℕ)) (b : Log) : Type 0 where
+  pub given : Option (List ℕ)
+  pub noted : Log
+  pub passes : PassesOver headers before a given noted
+  pub answered : Point
+  pub between : Option (List ℕ)
   pub then : Log
-  pub drains : DrainsAll answered given noted drained after then
-  pub cuts : Cuts drained then q b
+  pub reports : Reports (offering requests) 0 p given noted answered between then
+  pub ends : Settles answered between then q after b
 
 -- A leg, or what came alone: what came since was answered, or passed over.
 pub record Answered (order : ResponseOrder) (before : List Arrival) (p : Point) (from : Option (List ℕ)) (a : Log) (after : List Arrival) (q : Point)
     (to : Option (List ℕ)) (b : Log) : Type 0 where
-  pub requests : List Pairs
-  pub passed : ℕ
-  pub requests_are : requests_of after ≡ requests_of before ++ requests
-  pub passed_are : passed_of after ≡ passed_of before + passed
-  pub reports : ReportsWith (Some order) requests passed p from a q to b
+  pub came : List Reading
+  pub came_are : readings_of after ≡ readings_of before ++ came
+  pub reports : ReportsWith (Some order) came p from a q to b

@@ -1,15 +1,16 @@
 //! What comes alone, answered in turn between two legs.
 
-ghost use Rattle.std.specs.Prelude.{◌≡◌, IfOk, OnErr, OnOk, length, option_to_list};
+ghost use Rattle.std.specs.Prelude.{◌++◌, IfOk, OnErr, OnOk, map, option_to_list};
 ghost use Rattle.run_input.specs.Arrivals.{IfLast};
 ghost use Rattle.run_switch.specs.Points.{IsReady, point_of};
-ghost use Rattle.run_switch.specs.Rounds.{answering};
-ghost use Rattle.run_switch.specs.Stopped.{Halts, HaltsHeard, HaltsInTurn};
+ghost use Rattle.run_switch.specs.Rounds.{offering, returning};
+ghost use Rattle.run_switch.specs.Stopped.{Halts, HaltsHeard, HaltsThen};
 ghost use Rattle.run_switch.specs.Traces.{Answered, InTurn, Reports, log_of};
 
 use crate::edge::Edge;
 use crate::error::ServeError;
-use crate::leg::{LegPlan, pass_over};
+use crate::leg::LegPlan;
+use crate::passing::pass_over;
 use crate::switch::Switch;
 use run_input::{Arrivals, Heard, Input, PassedOver};
 use sqlite::Alter;
@@ -27,10 +28,10 @@ impl<S: Alter> Switch<S> {
         out: &mut O,
     ) -> Result<(), ServeError>
         requires ready { IsReady (point_of S.Store self.old) }
-        ensures serves { OnOk result (Reports (answering (option_to_list request)) 0
+        ensures serves { OnOk result (Reports (offering (option_to_list request)) 0
             (point_of S.Store self.old) (O.contents out.old) (log_of E.contents edge.old.stderr)
             (point_of S.Store self.new) (O.contents out.new) (log_of E.contents edge.new.stderr)) }
-        ensures halts { OnErr result (Halts (answering (option_to_list request))
+        ensures halts { OnErr result (Halts (offering (option_to_list request))
             (point_of S.Store self.old) (O.contents out.old) (O.contents out.new)) }
         ensures ready { OnOk result (IsReady (point_of S.Store self.new)) }
     {
@@ -40,8 +41,8 @@ impl<S: Alter> Switch<S> {
         }
     }
 
-    // Answers a request, if there is one, writes the lines of messages that are passed over, runs what is on the shelf,
-    // and writes the lines of the trace: as after a leg.
+    // Passes messages over, answers a request, if there is one, runs what is on the shelf, and writes the lines of the
+    // trace: as after a leg.
     fn answer_one<T: Clock, O: Write, E: Write>(
         &mut self,
         edge: &mut Edge<'_, T, E>,
@@ -50,14 +51,16 @@ impl<S: Alter> Switch<S> {
         out: &mut O,
     ) -> Result<(), ServeError>
         requires ready { IsReady (point_of S.Store self.old) }
-        ensures answered { OnOk result (InTurn (option_to_list request) (length passed.now)
+        ensures answered { OnOk result (InTurn (option_to_list request)
+            (map (λ m. m.header.items) passed.now)
             (point_of S.Store self.old) (O.contents out.old) (log_of E.contents edge.old.stderr)
             (point_of S.Store self.new) (O.contents out.new) (log_of E.contents edge.new.stderr)) }
         ensures ready { OnOk result (IsReady (point_of S.Store self.new)) }
-        ensures halts { OnErr result (HaltsInTurn (option_to_list request)
+        ensures halts { OnErr result (HaltsThen
+            (returning (map (λ m. m.header.items) passed.now) ++ offering (option_to_list request))
             (point_of S.Store self.old) (O.contents out.old) (O.contents out.new)) }
     {
-        pass_over(edge, passed)?;
+        pass_over(edge, passed, out)?;
         self.answer_if_any(edge, request, out)?;
         self.drain(edge, out)?;
         self.cut_traced(edge)

@@ -1,19 +1,21 @@
 //! One leg: a run of all sessions that goes on while requests come, and gives each response as its transaction ends.
 
-ghost use Rattle.std.specs.Prelude.{◌≡◌, ◌+◌, [], List, ℕ, IfOk, IfSome, OnErr, OnOk, MatchResult};
-ghost use Rattle.std.specs.Prelude.{length, map, is_some, true, false, Ok, Some};
+ghost use Rattle.std.specs.Prelude.{◌≡◌, [], List, ℕ, IfOk, IfSome, OnErr, OnOk, MatchResult};
+ghost use Rattle.std.specs.Prelude.{map, is_some, true, false, Ok, Some};
 ghost use Rattle.sw_context.specs.Pairs.{Pairs};
-ghost use Rattle.run_input.specs.Arrivals.{IfLast, passed_of, requests_of};
+ghost use Rattle.run_input.specs.Arrivals.{CameSince, IfLast, requests_of};
 ghost use Rattle.run_responses.specs.Giving.{AreFound, giving_of};
 ghost use Rattle.run_responses.specs.declared.sink.ResponseOrder.TheVariants.{ById};
 ghost use Rattle.run_switch.specs.Led.{Led};
 ghost use Rattle.run_switch.specs.Points.{IsAtRest, IsReady, RestsGiven, all_answered, ended_at};
 ghost use Rattle.run_switch.specs.Points.{point_of, unanswered};
-ghost use Rattle.run_switch.specs.Stopped.{DrainsSome, GivesEnded, HaltsHeard};
-ghost use Rattle.run_switch.specs.Traces.{Answered, Finishes, Tells, log_of};
+ghost use Rattle.run_switch.specs.Rounds.{returning};
+ghost use Rattle.run_switch.specs.Stopped.{GivesEnded, HaltsHeard, HaltsThen};
+ghost use Rattle.run_switch.specs.Traces.{Answered, Finishes, log_of};
 
 use crate::edge::Edge;
 use crate::error::ServeError;
+use crate::passing::pass_over;
 use crate::switch::Switch;
 use run_input::{Arrivals, Heard, Input, Leg, LegLimits, LegSource, PassedOver};
 use run_responses::{ResponseOrder, Responses};
@@ -164,8 +166,8 @@ fn lead_leg<
         (requests_of arrivals.entry) (requests_of done.1.arrivals)
         (point_of S.Store switch) (point_of S.Store done.0)
         (O.contents out.old) (O.contents out.new)) }
-    ensures passed { IfOk result (λ done. passed_of done.1.arrivals
-        ≡ passed_of arrivals.entry + length done.1.passed.items) }
+    ensures came { IfOk result (λ done.
+        CameSince arrivals.entry done.1.arrivals done.1.passed.items) }
     ensures end { IfOk result (λ done. IfLast done.1.end done.1.arrivals) }
     ensures some { OnErr result (GivesEnded (point_of S.Store switch)
         (O.contents out.old) (O.contents out.new)) }
@@ -181,24 +183,9 @@ fn lead_leg<
     }
 }
 
-/// Writes a line for each of these messages.
-pub(crate) fn pass_over<T: Clock, E: Write>(
-    edge: &mut Edge<'_, T, E>,
-    list: &[PassedOver],
-) -> Result<(), ServeError>
-    ensures { OnOk result (Tells [] (length list.now)
-        (log_of E.contents edge.old.stderr) (log_of E.contents edge.new.stderr)) }
-{
-    for message in list {
-        edge.stderr
-            .pass_over(edge.alloc, message.number, &message.error)?;
-    }
-    Ok(())
-}
-
 impl<S: Alter + Drop> Switch<S> {
-    // Counts the responses of a leg, writes the lines of its messages that are passed over, runs what is on the shelf,
-    // and writes the lines of the trace.
+    // Counts the responses of a leg, writes the lines of its messages that are passed over and gives their headers back, runs
+    // what is on the shelf, and writes the lines of the trace.
     fn finish_leg<T: Clock, O: Write, E: Write>(
         &mut self,
         edge: &mut Edge<'_, T, E>,
@@ -206,15 +193,16 @@ impl<S: Alter + Drop> Switch<S> {
         out: &mut O,
     ) -> Result<(), ServeError>
         requires { RestsGiven (point_of S.Store self.old) }
-        ensures finishes { OnOk result (Finishes (length passed.now)
+        ensures finishes { OnOk result (Finishes (map (λ m. m.header.items) passed.now)
             (point_of S.Store self.old) (O.contents out.old) (log_of E.contents edge.old.stderr)
             (point_of S.Store self.new) (O.contents out.new) (log_of E.contents edge.new.stderr)) }
         ensures ready { OnOk result (IsReady (point_of S.Store self.new)) }
-        ensures stops { OnErr result (DrainsSome (all_answered (point_of S.Store self.old))
+        ensures halts { OnErr result (HaltsThen (returning (map (λ m. m.header.items) passed.now))
+            (all_answered (point_of S.Store self.old))
             (O.contents out.old) (O.contents out.new)) }
     {
         self.note_given(edge.alloc)?;
-        pass_over(edge, passed)?;
+        pass_over(edge, passed, out)?;
         self.drain(edge, out)?;
         self.cut_traced(edge)
     }

@@ -151,6 +151,7 @@ mod edge;
 mod error;
 mod given;
 mod leg;
+mod passing;
 mod progress;
 mod record_log;
 mod reporter;

@@ -19,7 +19,7 @@ ghost use Rattle.run_switch.specs.Points.{IsAtRest, point_of};
 ghost use Rattle.run_switch.specs.Ran.{Closes, HasBegun, Printed, Ran, ServesAll, ServesTold, all_lines};
 ghost use Rattle.run_switch.specs.Ran.{lines_cut};
 ghost use Rattle.run_switch.specs.Rounds.{Recovers, Round, RoundsFor};
-ghost use Rattle.run_input.specs.Requests.{ReadTo, passed_over, requests};
+ghost use Rattle.run_input.specs.Requests.{ReadTo, passed_over, readings};
 ghost use Rattle.run_switch.specs.Stopped.{DrainsSome, GoesOnSome, IsStopped, ServesSome};
 ghost use Rattle.run_switch.specs.Shown.{TellsAll, TellsRun, unfinished_in, unfinished_of};
 ghost use Rattle.run_switch.specs.Traces.{DrainsAll, Tells, log_of};
@@ -123,7 +123,7 @@ impl<S: Alter> Switch<S> {
         requires empty { waits (engine_of self.old.plant) ≡ [] }
         ensures serves { IfOk result (λ end. (frames : List (List ℕ))
             × ReadTo end (R.remaining input) frames
-            × (rounds : List Round) × RoundsFor None (requests header frames) rounds
+            × (rounds : List Round) × RoundsFor None (readings header frames) rounds
             × (all : ServesAll (SendsAdvice L.sends L.receives L.starves (Unit {0})) rounds
             (point_of S.Store self.old) advisor.old (O.contents out.old) (O.contents out.new))
             × (all.end ≡ point_of S.Store self.new)
@@ -184,7 +184,7 @@ impl<S: Alter + Drop> Switch<S> {
         ensures serves { IfOk result (λ end. (frames : List (List ℕ))
             × ReadTo end (R.remaining stream.input) frames
             × (rounds : List Round)
-            × RoundsFor (Some stream.order) (requests stream.header frames) rounds
+            × RoundsFor (Some stream.order) (readings stream.header frames) rounds
             × (all : ServesAll (SendsAdvice L.sends L.receives L.starves (Unit {0})) rounds
             (point_of S.Store self) advisor.old (O.contents out.old) (O.contents out.new))
             × TellsAll (all_lines all) (passed_over stream.header frames) all.end
@@ -274,7 +274,7 @@ impl<S: Alter + Drop, R: Read + Drop + Send + 'static, L: Link> Over<S, R, L> {
     ) -> Result<StreamEnd, ServeError>
         ensures ran { IfOk result (λ end. IfSome self.input (λ reader. (frames : List (List ℕ))
             × ReadTo end (R.remaining reader) frames
-            × (rounds : List Round) × RoundsFor self.threads (requests self.header frames) rounds
+            × (rounds : List Round) × RoundsFor self.threads (readings self.header frames) rounds
             × (ran : Ran code.now self.sessions (seen (kept S.Store self.journal))
             (SendsAdvice L.sends L.receives L.starves (Unit {0})) self.sender self.advices rounds
             (O.contents out.old) (O.contents out.new))
@@ -362,7 +362,7 @@ impl<S: Alter + Drop, R: Read + Drop + Send + 'static, L: Link> Begun<S, R, L> {
         requires empty { waits (engine_of self.switch.plant) ≡ [] }
         ensures serves { IfOk result (λ end. IfSome self.input (λ reader.
             (frames : List (List ℕ)) × ReadTo end (R.remaining reader) frames
-            × (rounds : List Round) × RoundsFor self.threads (requests self.header frames) rounds
+            × (rounds : List Round) × RoundsFor self.threads (readings self.header frames) rounds
             × ServesTold (SendsAdvice L.sends L.receives L.starves (Unit {0})) rounds
             (point_of S.Store self.switch) self.advisor (O.contents out.old) (O.contents out.new)
             edge.old.stderr.words self.unfinished (passed_over self.header frames)
@@ -457,7 +457,8 @@ fn named(
 ///
 /// Before each message of a frame is a header of the setup's number of bytes, which may be 0. It is opaque, is kept with the
 /// transaction, also on the shelf and in the journal, and is written before the response. A frame that is shorter
-/// is passed over, as one whose message cannot be read.
+/// is passed over. Of a message that is passed over the header is given back, in a frame of its own, so that who sent it
+/// need not wait: with threads after its leg.
 ///
 /// The stations are made here; no caller has one of them.
 pub fn run<
@@ -476,7 +477,7 @@ pub fn run<
 ) -> Result<StreamEnd, ServeError>
     ensures ran { IfOk result (λ end. IfSome input (λ reader. (frames : List (List ℕ))
         × ReadTo end (R.remaining reader) frames
-        × (rounds : List Round) × RoundsFor setup.threads (requests setup.header frames) rounds
+        × (rounds : List Round) × RoundsFor setup.threads (readings setup.header frames) rounds
         × (ran : Ran code.now setup.sessions (seen (kept S.Store journal))
         (SendsAdvice ⟦<SwitchLink as Link>⟧.sends ⟦<SwitchLink as Link>⟧.receives
         ⟦<SwitchLink as Link>⟧.starves (Unit {0}))

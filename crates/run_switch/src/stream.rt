@@ -1,54 +1,60 @@
 //! The frames of a stream, answered as they come, one transaction after the other.
 
-ghost use Rattle.std.specs.Prelude.{◌≡◌, ℕ, List, [], IfOk, None, OnErr, OnOk};
-ghost use Rattle.std.specs.Prelude.{length, map, option_to_list};
+ghost use Rattle.std.specs.Prelude.{◌∷◌, ℕ, List, [], IfOk, None, OnErr, OnOk, length};
 ghost use Rattle.sw_frame.specs.Feeds.{messages};
-ghost use Rattle.iso_codec.specs.Reads.{read};
 ghost use Rattle.sw_issuers.specs.Sending.{SendsAdvice};
-ghost use Rattle.run_input.specs.Requests.{ReadTo, if_passed, if_read, message_in, passed_over, request_of, requests};
+ghost use Rattle.run_input.specs.Arrivals.{AreMessages, headers_of, readings_of};
+ghost use Rattle.run_input.specs.Requests.{ReadTo, passed_over, readings};
 ghost use Rattle.run_switch.specs.Legs.{AdvancesFor, stage};
 ghost use Rattle.run_switch.specs.Points.{IsReady, point_of};
 ghost use Rattle.run_switch.specs.Rounds.{answering};
 ghost use Rattle.run_switch.specs.Stopped.{Halts, StopsWithin};
-ghost use Rattle.run_switch.specs.Traces.{Reports, Tells, log_of};
+ghost use Rattle.run_switch.specs.Traces.{Reports, log_of};
 
 use crate::advices::{Advisor, send_between};
 use crate::edge::Edge;
 use crate::error::ServeError;
+use crate::passing::pass_one;
 use crate::switch::Switch;
 use cli_io::IoError;
 use run_input::{Arrival, Frames, PIECE, Piece, StreamEnd, arrival_of};
 use sqlite::Alter;
 use std::io::{Read, Write};
 use std::time::Clock;
-use sw_context::Context;
 use sw_parts::Link;
 
-// The context of a request; a frame whose message cannot be read is passed over, and its number is written.
-fn request_in<T: Clock, E: Write>(
-    edge: &mut Edge<'_, T, E>,
-    number: u64,
-    header: usize,
-    frame: &[u8],
-) -> Result<Option<Context>, ServeError>
-    ensures request { IfOk result (λ request. option_to_list request
-        ≡ map (request_of header) (if_read (read (message_in header frame.now)) frame.now)) }
-    ensures tells { OnOk result (Tells [] (if_passed (read (message_in header frame.now)))
-        (log_of E.contents edge.old.stderr) (log_of E.contents edge.new.stderr)) }
-{
-    match arrival_of(edge.alloc, number, header, frame)? {
-        Arrival::Request(request) => Ok(Some(request)),
-        Arrival::Passed(passed) => {
-            edge.stderr
-                .pass_over(edge.alloc, passed.number, &passed.error)?;
-            Ok(None)
+impl<S: Alter> Switch<S> {
+    // Answers a request, and then writes the numbers of the run, if they are due; or passes a message over.
+    fn answer_arrival<T: Clock, O: Write, E: Write>(
+        &mut self,
+        edge: &mut Edge<'_, T, E>,
+        arrival: Arrival,
+        out: &mut O,
+    ) -> Result<(), ServeError>
+        requires ready { IsReady (point_of S.Store self.old) }
+        requires message { AreMessages (arrival ∷ []) }
+        ensures serves { OnOk result (Reports (answering (readings_of (arrival ∷ [])))
+            (length (headers_of (arrival ∷ [])))
+            (point_of S.Store self.old) (O.contents out.old) (log_of E.contents edge.old.stderr)
+            (point_of S.Store self.new) (O.contents out.new) (log_of E.contents edge.new.stderr)) }
+        ensures halts { OnErr result (Halts (answering (readings_of (arrival ∷ [])))
+            (point_of S.Store self.old) (O.contents out.old) (O.contents out.new)) }
+        ensures ready { OnOk result (IsReady (point_of S.Store self.new)) }
+    {
+        match arrival {
+            Arrival::Request(request) => {
+                let before = self.answered.counts.requests();
+                self.answer(edge, request, out)?;
+                self.show_since(edge, before);
+                Ok(())
+            }
+            Arrival::Passed(message) => pass_one(edge, &message, out),
+            Arrival::Ended(_) => unreachable!(),
         }
-        Arrival::Ended(_) => unreachable!(),
     }
 }
 
-// Answers the messages of frames, one after the other: each that can be read. After each the numbers of the run are written, if they
-// are due.
+// Answers the messages of frames, one after the other, or passes them over.
 fn answer_messages<S: Alter, T: Clock, O: Write, E: Write>(
     edge: &mut Edge<'_, T, E>,
     switch: &mut Switch<S>,
@@ -58,22 +64,18 @@ fn answer_messages<S: Alter, T: Clock, O: Write, E: Write>(
     out: &mut O,
 ) -> Result<(), ServeError>
     requires ready { IsReady (point_of S.Store switch.old) }
-    ensures serves { OnOk result (Reports (answering (requests header (messages list.now)))
+    ensures serves { OnOk result (Reports (answering (readings header (messages list.now)))
         (passed_over header (messages list.now))
         (point_of S.Store switch.old) (O.contents out.old) (log_of E.contents edge.old.stderr)
         (point_of S.Store switch.new) (O.contents out.new) (log_of E.contents edge.new.stderr)) }
-    ensures halts { OnErr result (Halts (answering (requests header (messages list.now)))
+    ensures halts { OnErr result (Halts (answering (readings header (messages list.now)))
         (point_of S.Store switch.old) (O.contents out.old) (O.contents out.new)) }
     ensures ready { OnOk result (IsReady (point_of S.Store switch.new)) }
 {
     for frame in list {
         *count = count.saturating_add(1);
-        let Some(request) = request_in(edge, *count, header, frame)? else {
-            continue;
-        };
-        let before = switch.answered.counts.requests();
-        switch.answer(edge, request, out)?;
-        switch.show_since(edge, before);
+        let arrival = arrival_of(edge.alloc, *count, header, frame)?;
+        switch.answer_arrival(edge, arrival, out)?;
     }
     Ok(())
 }

@@ -28,17 +28,20 @@ use sw_parts::Link;
 /// How long a leg goes on at most where lines or advices are due, in milliseconds.
 const LONGEST: u64 = 1_000;
 
-// When the next leg ends though requests come: with its history, where the next line of numbers is due, and after some time
-// where lines are wanted or advices may be sent.
+// When the next leg ends though requests come: with its history, where the next line of numbers is due, with a message whose
+// header is given back, and after some time where lines are wanted or advices may be sent.
 fn limits_of<S: Alter, T: Clock, L: Link, E: Write>(
     edge: &Edge<'_, T, E>,
     switch: &Switch<S>,
     advisor: &Advisor<L>,
+    header: usize,
 ) -> LegLimits {
     let is_timed = edge.stderr.is_live() || advisor.most() > 0;
     LegLimits {
         entries: MANY_ENTRIES as u64,
         requests: edge.stderr.requests_left(switch.answered.counts.requests()),
+        // So its header is given back soon.
+        passed: if header > 0 { 1 } else { usize::MAX },
         time: if is_timed {
             Some(Duration::from_millis(LONGEST))
         } else {
@@ -148,7 +151,7 @@ pub(crate) fn answer_stream<
     let mut switch = switch;
     for _ in edge.rt.forever() {
         arrivals.wait();
-        let limits = limits_of(edge, &switch, advisor);
+        let limits = limits_of(edge, &switch, advisor, header);
         let plan = LegPlan {
             order,
             asks_hosts,

@@ -14,7 +14,7 @@ ghost use Rattle.run_responses.specs.Responses.{responses};
 ghost use Rattle.run_switch.specs.Points.{unanswered};
 ghost use Rattle.run_switch.specs.Led.{TookSome};
 ghost use Rattle.run_switch.specs.Rounds.{Completed, Does, IsDone, Together, Transacts};
-ghost use Rattle.run_switch.specs.Rounds.{answering};
+ghost use Rattle.run_switch.specs.Rounds.{offering};
 ghost use Rattle.run_switch.specs.Stopped.{GivesSome, Halts};
 ghost use Rattle.run_switch.specs.Traces.{Cuts, IsLive, IsOver, Reports, log_of};
 
@@ -273,10 +273,10 @@ impl<S: Alter> Switch<S> {
         out: &mut O,
     ) -> Result<(), ServeError>
         requires ready { IsReady (point_of S.Store self.old) }
-        ensures serves { OnOk result (Reports (answering (request ∷ [])) 0
+        ensures serves { OnOk result (Reports (offering (request ∷ [])) 0
             (point_of S.Store self.old) (O.contents out.old) (log_of E.contents edge.old.stderr)
             (point_of S.Store self.new) (O.contents out.new) (log_of E.contents edge.new.stderr)) }
-        ensures halts { OnErr result (Halts (answering (request ∷ []))
+        ensures halts { OnErr result (Halts (offering (request ∷ []))
             (point_of S.Store self.old) (O.contents out.old) (O.contents out.new)) }
         ensures ready { OnOk result (IsReady (point_of S.Store self.new)) }
         ensures live { OnOk result (IsLive

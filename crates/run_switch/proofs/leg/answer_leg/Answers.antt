@@ -8,7 +8,7 @@ finish_leg-requires g c = together_rests _ _ _ c.requires.ready.rest c.in_ok-led
 
 pub returns-in-Ok-clause-answered : goal.returns-in-Ok-clause-answered
 returns-in-Ok-clause-answered g c =
-    leg_answered _ _ _ _ _ _ _ _ _ _ _ _ _ _ c.requires.ready c.begin.ensures c.in_ok-led.ensures.led c.in_ok-led.ensures.passed
+    leg_answered _ _ _ _ _ _ _ _ _ _ _ _ _ _ c.requires.ready c.begin.ensures c.in_ok-led.ensures.led c.in_ok-led.ensures.came
     (rw c.deref.ensures.value at c.in-Ok.ensures.finishes) c.show_since.ensures.tells
 
 pub returns-in_err-led-clause-halts : goal.returns-in_err-led-clause-halts
@@ -17,5 +17,5 @@ returns-in_err-led-clause-halts g c =
 
 pub returns-clause-halts : goal.returns-clause-halts
 returns-clause-halts g c =
-    halts_after g.B.Input.header _ g.B.Input.input _ _ _ _ _ _ _ c.requires.ready c.in_ok-led.ensures.led (came_so_far g.B.Input.header g.B.Input.input _ c.has_come-2.ensures)
-    c.in-Err.ensures.stops
+    halts_after g.B.Input.header _ g.B.Input.input _ _ _ _ _ _ _ _ c.requires.ready c.in_ok-led.ensures.led c.in_ok-led.ensures.came
+    (came_so_far g.B.Input.header g.B.Input.input _ c.has_come-2.ensures) (rw c.deref.ensures.value at c.in-Err.ensures.halts)

@@ -8,7 +8,7 @@ use Rattle.run_responses.specs.declared.sink.ResponseOrder.{ResponseOrder}
 use Rattle.run_switch.specs.Advices.{AdviceStep}
 use Rattle.run_switch.specs.Links.{sender_with}
 use Rattle.run_switch.specs.Ran.{Ran, all_lines}
-use Rattle.run_input.specs.Requests.{ReadTo, passed_over, requests}
+use Rattle.run_input.specs.Requests.{ReadTo, passed_over, readings}
 use Rattle.run_switch.specs.Rounds.{Round, RoundsFor}
 use Rattle.run_reports.specs.declared.Words.{Words}
 use Rattle.run_switch.specs.Shown.{TellsRun, unfinished_in}
@@ -26,7 +26,7 @@ abbrev RanBy : {R : Type 0} → ℕ → Result StreamEnd ServeError → Option R
     Option (List ℕ) → Option Words → Log → Log → PlainSender → Type 0
 RanBy header r input remaining threads f n j step most a b words k l sender =
     IfOk r (λ end. IfSome input (λ reader. (frames : List (List ℕ)) × ReadTo end (remaining reader) frames × (rounds : List Round)
-    × RoundsFor threads (requests header frames) rounds
+    × RoundsFor threads (readings header frames) rounds
     × (ran : Ran f n j step sender most rounds a b)
     × TellsRun words (unfinished_in ran.begins.view) (all_lines ran.serves) (passed_over header frames) ran.serves.end k l))
 

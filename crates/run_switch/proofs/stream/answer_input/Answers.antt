@@ -2,7 +2,7 @@ use Rattle.std.proofs.Common.{◌≡◌, ◌<◌, ◌≤◌, [], ◌++◌, lengt
 use Rattle.sw_frame.specs.Feeds.{messages}
 use Rattle.sw_frame.specs.Stream.{State}
 use Rattle.run_switch.specs.Points.{point_of}
-use Rattle.run_input.specs.Requests.{EndsAs, passed_over, requests}
+use Rattle.run_input.specs.Requests.{EndsAs, readings}
 use Rattle.run_switch.proofs.Advancing.{advanced_frames, advanced_none, advanced_sends, stops_fresh, stops_on}
 use Rattle.run_switch.proofs.Reporting.{for_answered}
 use Rattle.run_switch.proofs.Rounds.{if_none, if_some}
@@ -50,7 +50,7 @@ loop-preserved g c =
       sound = if_none _ c.in_ok-messages.field-0.end c.in_default.is c.in_ok-messages.ensures.goes_on;
       messages = i.messages ++ more;
       reads = c.in_ok-messages.ensures.reads (g.R.Read.remaining c.args.input.now) i.messages i.reads;
-      serves = advanced_sends _ None (requests c.args.header (i.messages ++ more)) (passed_over c.args.header (i.messages ++ more)) _ _ _ _ _ _ _ (advanced_frames c.args.header _ None i.messages more _ _ _ _ _ _ _ i.serves served)
+      serves = advanced_sends _ None (readings c.args.header (i.messages ++ more)) _ _ _ _ _ _ _ (advanced_frames c.args.header _ None i.messages more _ _ _ _ _ _ _ i.serves served)
           c.in_ok-send_between.ensures.sends;
       ready = c.in_ok-send_between.ensures.ready;
     }
@@ -75,7 +75,7 @@ returns-in_err-answer_messages-clause-stops g c =
     on_err_of c.from_residual-in_err-answer_messages.result (stops_on c.args.header _ None (g.R.Read.remaining c.args.input.now) (g.R.Read.remaining c.loop.input)
     i.messages c.loop.frames.framer _ _ _ _ _ i.reads i.serves
     (halts_reads c.args.header None (g.R.Read.remaining c.loop.input) (g.R.Read.remaining c.read.new.input) more c.loop.frames.framer c.read.new.self.framer q out end
-    c.in_ok-messages.ensures.reads (toward_answering (requests c.args.header more) q out end (rw c.deref.ensures.value at c.in_err-answer_messages.ensures.halts))))
+    c.in_ok-messages.ensures.reads (toward_answering (readings c.args.header more) q out end (rw c.deref.ensures.value at c.in_err-answer_messages.ensures.halts))))
 
 pub returns-in_err-send_between-clause-stops : goal.returns-in_err-send_between-clause-stops
 returns-in_err-send_between-clause-stops g c =

@@ -42,7 +42,7 @@ returns-in_err-send_between-in-None-end-clause-stops g c =
 
 pub loop-preserved : goal.loop-preserved
 loop-preserved g c = record {
-  serves = advanced_sends _ (Some c.args.stream.order) _ _ _ _ _ _ _ _ _
+  serves = advanced_sends _ (Some c.args.stream.order) _ _ _ _ _ _ _ _
       (advanced_leg _ c.args.stream.order _ _ _ _ _ _ _ _ _ c.loop.invariant.serves c.in_ok-led.ensures.answered) c.in_ok-send_between-in-None-end.ensures.sends;
   ready = c.in_ok-send_between-in-None-end.ensures.ready;
 }

@@ -4,7 +4,7 @@ use Rattle.std.specs.Io.KnownBytes.{Appends}
 use Rattle.tx_engine.specs.World.{World}
 use Rattle.run_switch.specs.declared.reporter.LineForm.TheVariants.{Text}
 use Rattle.run_switch.specs.Lines.{lines_in, written_as}
-use Rattle.run_input.specs.Requests.{requests}
+use Rattle.run_input.specs.Requests.{readings}
 use Rattle.run_switch.proofs.LegRounds.{for_these, some_for}
 use Rattle.run_switch.proofs.Rounds.{if_ok, none_none, some_ok}
 use Rattle.run_switch.proofs.Runs.{through_both, told_last, told_ready}
@@ -29,7 +29,7 @@ returns-in-Some-threads-clause-serves g c =
       served.0,
       served.1,
       served.2,
-      for_these c.args.self.threads (Some c.in-Some-threads.order) (requests c.args.self.header served.0) served.2 c.in-Some-threads.is served.3,
+      for_these c.args.self.threads (Some c.in-Some-threads.order) (readings c.args.self.header served.0) served.2 c.in-Some-threads.is served.3,
       told_ready _ _ _ _ _ _ _ _ _ _ _ _ c.say_ready.ensures (served.4, served.5),
     )) c.answer_together.ensures.serves
 
@@ -45,7 +45,7 @@ returns-clause-serves g c =
       served.0,
       served.1,
       served.2,
-      for_these c.args.self.threads None (requests c.args.self.header served.0) served.2 c.in_default-threads.is served.3,
+      for_these c.args.self.threads None (readings c.args.self.header served.0) served.2 c.in_default-threads.is served.3,
       told_ready _ _ _ _ _ _ _ _ _ _ _ _ c.say_ready.ensures
           (told_last _ _ _ _ _ _ _ _ _ _ _ _ _ served.4 served.5 c.engine-2.ensures served.6 left c.show.ensures.shows),
     ))
@@ -61,6 +61,6 @@ returns-clause-stops g c =
     either_way c.answer_in_turn-served.result c.end_of.result c.answer_in_turn-served.ensures.serves c.answer_in_turn-served.ensures.stops
     (λ end served. goes_some c.args.self.header _ c.args.self.threads g.R.Read.remaining c.args.self.input c.in-Some.input _ _ _ _ c.in-Some.is
     (inr (served_all c.args.self.header c.args.self.threads _ _ _ _ _ _ end served.0 served.2 served.1
-    (for_these c.args.self.threads None (requests c.args.self.header served.0) served.2 c.in_default-threads.is served.3) served.4)))
+    (for_these c.args.self.threads None (readings c.args.self.header served.0) served.2 c.in_default-threads.is served.3) served.4)))
     (λ some. goes_some c.args.self.header _ c.args.self.threads g.R.Read.remaining c.args.self.input c.in-Some.input _ _ _ _ c.in-Some.is
     (some_for c.args.self.header _ c.args.self.threads None _ _ _ _ _ c.in_default-threads.is some))

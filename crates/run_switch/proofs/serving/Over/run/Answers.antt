@@ -12,7 +12,7 @@ use Rattle.run_switch.specs.Advices.{AdviceStep, PlainAdvisor}
 use Rattle.run_switch.specs.Numbers.{begun_in}
 use Rattle.run_switch.specs.Points.{Point}
 use Rattle.run_switch.specs.Ran.{HasBegun, Ran, ServesTold, all_lines}
-use Rattle.run_input.specs.Requests.{ReadTo, passed_over, requests}
+use Rattle.run_input.specs.Requests.{ReadTo, passed_over, readings}
 use Rattle.run_switch.specs.Rounds.{Round, RoundsFor}
 use Rattle.run_reports.specs.declared.Words.{Words}
 use Rattle.run_reports.specs.declared.ready.Recovered.{Recovered}
@@ -33,7 +33,7 @@ use Rattle.run_switch.proofs.serving.Over.run.Goals as goal
 abbrev Served : {R : Type 0} → ℕ → (R → Option (List ℕ)) → Option ResponseOrder → AdviceStep → Point → PlainAdvisor → Option (List ℕ) → Option (List ℕ) → Option Words →
     Recovered → Log → Log → StreamEnd → R → Type 0
 Served header remaining threads step p advisor a b words unfinished k l end reader =
-    (frames : List (List ℕ)) × ReadTo end (remaining reader) frames × (rounds : List Round) × RoundsFor threads (requests header frames) rounds
+    (frames : List (List ℕ)) × ReadTo end (remaining reader) frames × (rounds : List Round) × RoundsFor threads (readings header frames) rounds
     × ServesTold step rounds p advisor a b words unfinished (passed_over header frames) k l
 
 ran_over : {R : Type 0} (header : ℕ) (r : Result StreamEnd ServeError) (other input : Option R) (remaining : R → Option (List ℕ)) (one threads : Option ResponseOrder) (f : Flow)
@@ -41,7 +41,7 @@ ran_over : {R : Type 0} (header : ℕ) (r : Result StreamEnd ServeError) (other 
     (a b : Option (List ℕ)) (words : Option Words) (k l : Log) → other ≡ input → one ≡ threads → HasBegun f n j sender most p advisor unfinished
     → IfOk r (λ end. IfSome other (Served header remaining one step p advisor a b words unfinished k l end))
     → IfOk r (λ end. IfSome input (λ reader. (frames : List (List ℕ)) × ReadTo end (remaining reader) frames × (rounds : List Round)
-    × RoundsFor threads (requests header frames) rounds
+    × RoundsFor threads (readings header frames) rounds
     × (ran : Ran f n j step sender most rounds a b)
     × TellsRun words (unfinished_in ran.begins.view) (all_lines ran.serves) (passed_over header frames) ran.serves.end k l))
 ran_over header (Err e) other input remaining one threads f n j sender most p advisor unfinished step a b words k l same by h served = tt
@@ -51,7 +51,7 @@ ran_over {R} header (Ok end) other (Some reader) remaining one threads f n j sen
     subst (λ (z : Option R). IfSome z (Served header remaining one step p advisor a b words unfinished k l end)) same served in
     let (frames, read, rounds, are, told) = here in
     let (done, tells) = ran_from f n j sender most p advisor unfinished step rounds a b words (passed_over header frames) k l h told in
-    (frames, read, rounds, for_these threads one (requests header frames) rounds (sym by) are, done, tells)
+    (frames, read, rounds, for_these threads one (readings header frames) rounds (sym by) are, done, tells)
 
 if_none_too : {R : Type 0} {P Q : Type 0} (other input : Option R) → other ≡ input → (P → Q) → IfNone other P → IfNone input Q
 if_none_too other (Some x) same f h = tt

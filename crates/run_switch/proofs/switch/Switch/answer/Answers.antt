@@ -1,5 +1,5 @@
 use Rattle.std.proofs.Common.{[], ◌∷◌}
-use Rattle.run_switch.specs.Rounds.{Completed, answering}
+use Rattle.run_switch.specs.Rounds.{Completed, offering}
 use Rattle.run_switch.proofs.Resting.{offered_rest}
 use Rattle.run_switch.proofs.Rounds.{on_ok, ready_again, reports_offer, the_completed}
 use Rattle.run_switch.proofs.Stops.{halts_none, halts_offer, on_err, on_err_of}
@@ -20,4 +20,4 @@ returns g c = record {
 }
 
 pub returns-in_err-act-clause-halts : goal.returns-in_err-act-clause-halts
-returns-in_err-act-clause-halts g c = on_err_of c.from_residual.result (halts_none (answering (c.args.request ∷ [])) _ _)
+returns-in_err-act-clause-halts g c = on_err_of c.from_residual.result (halts_none (offering (c.args.request ∷ [])) _ _)
