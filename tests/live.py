@@ -4,6 +4,7 @@
     tests/live.py [--seed N] [--count N] [--program PATH]
 
 pipe      Each request is sent once the response and the lines of the one before it have come, and nothing more has.
+alone     The same with --threads: a request that comes alone is answered as without threads, and no session's thread is started.
 one read  All requests come at once, and both outputs go into one pipe: the lines of each transaction come before the response of the
           next one.
 
@@ -79,7 +80,17 @@ def read(stream, seconds):
     return os.read(stream.fileno(), 65_536) if ready else b""
 
 
-def pipe_faults(words, form, made):
+def threads_of(process):
+    """How many threads a process has."""
+    return len(os.listdir(f"/proc/{process.pid}/task"))
+
+
+def alone_faults(words, form, made):
+    """What is wrong with threads if each request comes alone. One thread reads, and the main thread answers."""
+    yield from pipe_faults([*words, "--threads", "--sessions", "4"], form, made, most=2)
+
+
+def pipe_faults(words, form, made, most=1):
     """What is wrong if each request is sent once the one before it is answered and its lines are there."""
     streams = {"stdin": subprocess.PIPE, "stdout": subprocess.PIPE, "stderr": subprocess.PIPE, "bufsize": 0}
     with subprocess.Popen([*words, *options(form)], **streams) as process:
@@ -94,6 +105,10 @@ def pipe_faults(words, form, made):
                     process.kill()
                     yield f"message {number}: {name}: {got}, wanted {wanted}"
                     return
+            if frame and (threads := threads_of(process)) > most:
+                process.kill()
+                yield f"message {number}: {threads} threads, wanted {most} at most"
+                return
         status = process.wait(SECONDS)
         if status:
             yield f"status {status}, wanted 0"
@@ -128,7 +143,7 @@ def main():
         words = [os.path.abspath(given.program), "run", "--flow", flow, "--limit", str(LIMIT)]
         for number in range(given.count):
             made, form = [it for it in requests.stream(chosen) if messages.is_message(it)], chosen.choice(FORMS)
-            for name, faults in ("pipe", pipe_faults), ("one read", read_faults):
+            for name, faults in ("pipe", pipe_faults), ("alone", alone_faults), ("one read", read_faults):
                 wrong = list(faults(words, form, made))
                 passed, failed = passed + (not wrong), failed + bool(wrong)
                 for fault in wrong:

@@ -19,15 +19,16 @@
 //!   the queue is empty (`Begins`).
 //! - The bytes taken from the input are the text of frames up to the end that is reported, however they
 //!   came. Exactly the messages that can be read are offered, each in the context of its request, in
-//!   their order.
+//!   their order. Of the others the headers are given back (`answering`, `AreOfStream`).
 //! - Each one is taken, and its transaction run to its end, before the next is offered. Then its
 //!   response is given, the entry `response` of the context that it ended with, once all is written
 //!   (`Completes`). The plant then keeps no context of a transaction that ended (`all_answered`). The
 //!   history may be cut, and has fewer than 524,288 entries when a request is offered (`MayCut`,
 //!   `IsReady`).
-//! - With threads, the requests are run in legs, each by all sessions until nothing waits, no session
-//!   holds a transaction, and all is written (`Together`: one call of `drive`). The requests of all legs
-//!   are those of the input, in their order (`RoundsFor`). The responses of a leg are those of all
+//! - With threads, the requests are answered as without, or run in legs, each by all sessions until
+//!   nothing waits, no session holds a transaction, and all is written (`Together`: one call of `drive`).
+//!   All requests are those of the input, in their order (`RoundsFor`). No contract says which are run in
+//!   legs. The responses of a leg are those of all
 //!   transactions that ended, ids rising; or, in the order of ends, those that its entries ended by
 //!   `done`, each with the context that it ended with (`AreOrdered`, `Runs`). A leg begins only when the
 //!   switch is ready for it, its history not long (`Goes`, `IsReady`). That the shelf is emptied after

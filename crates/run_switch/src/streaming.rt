@@ -51,6 +51,7 @@ fn limits_of<S: Alter, T: Clock, L: Link, E: Write>(
 }
 
 /// The input of a run with threads, and how it is answered.
+#[derive(Drop)]
 pub(crate) struct Stream<R: Read> {
     pub(crate) input: R,
     /// How many bytes the header before each message of a frame has.
@@ -60,18 +61,6 @@ pub(crate) struct Stream<R: Read> {
     /// Whether a request may wait for a host. If not, one that comes alone is answered in turn: so it takes no longer than
     /// without threads. If so, it is answered in a leg, and others are answered while it waits.
     pub(crate) asks_hosts: bool,
-}
-
-// Written out, so that no caller proves again how its parts are dropped.
-impl<R: Read + Drop> Drop for Stream<R> {
-    fn drop(self) {
-        let Stream {
-            input: _,
-            header: _,
-            order: _,
-            asks_hosts: _,
-        } = self;
-    }
 }
 
 // Answers what has come: in turn if it came alone and asks no host, otherwise in a leg.

@@ -46,6 +46,7 @@ fn lead<'a, B: Input + Send + Sync, L: Leg + Send, R: Runtime + Clock>(
     let limits = LegLimits {
         entries: 1_000,
         requests: 1,
+        passed: 64,
         time: None,
     };
     let source = LegSource::<B, L, R>::begin(rt.alloc(), arrivals, limits)?;
