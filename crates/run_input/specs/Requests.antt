@@ -4,7 +4,7 @@
 --   *Reading*: what is read of a frame: a request in its context, or that its message cannot be read.
 --   *Reads*: the bytes taken from an input, whose frames these are, and what
 --   a framer keeps. *Ends as*: how a stream ended, by its framer and what is left of the input.
-use Rattle.std.specs.Prelude.{◌≡◌, ◌<◌, ℕ, ⊤, true, false, if◌then◌else◌, nat_le, List, [], ◌∷◌, ◌++◌, length, map, take, drop, Option, Result, Ok, Err, codes}
+use Rattle.std.specs.Prelude.{◌≡◌, ◌<◌, ℕ, ⊤, Bool, true, false, nat_le, List, [], ◌∷◌, ◌++◌, length, map, take, drop, Option, Result, Ok, Err, codes}
 use Rattle.std.specs.Io.KnownBytes.{Consumes, IsAtEnd}
 use Rattle.sw_context.specs.Pairs.{Pairs}
 use Rattle.sw_frame.specs.Stream.{State, Stream}
@@ -27,9 +27,14 @@ header_entry (byte ∷ more) = (codes "header", byte ∷ more) ∷ []
 abbrev pub request_of : ℕ → List ℕ → Pairs
 request_of n frame = header_entry (take n frame) ++ (codes "request", message_in n frame) ∷ []
 
+-- bytes, if there are so many
+abbrev pub if_whole : Bool → List ℕ → List ℕ
+if_whole true bytes = bytes
+if_whole false bytes = []
+
 -- the header of a frame; one that is shorter has none
 abbrev pub header_of : ℕ → List ℕ → List ℕ
-header_of n frame = if nat_le n (length frame) then take n frame else []
+header_of n frame = if_whole (nat_le n (length frame)) (take n frame)
 
 -- what is read of a frame: a request, in the context that it is offered in; or, if its message cannot be read, its header
 pub data Reading : Type 0 where

@@ -93,10 +93,7 @@ pub struct Heard<'a, B: Input, T> {
 
 impl<'a, B: Input, T: Wait> Arrivals<'a, B, T> {
     /// What came next, outside a leg: the request, if it is one, and what was heard.
-    pub fn hear_one(
-        self,
-        alloc: Global,
-    ) -> Result<(Option<Context>, Heard<'a, B, T>), AllocError>
+    pub fn hear_one(self, alloc: Global) -> Result<(Option<Context>, Heard<'a, B, T>), AllocError>
         ensures request { IfOk result (λ next. requests_of next.1.arrivals
             ≡ requests_of self.entry ++ option_to_list next.0) }
         ensures came { IfOk result (λ next.
@@ -106,10 +103,15 @@ impl<'a, B: Input, T: Wait> Arrivals<'a, B, T> {
         let mut passed = Vec::with_capacity(alloc, 1)?;
         let mut end = None;
         let mut arrivals = self;
-        let request = match arrivals.get() {
-            Some(arrival) => arrival.hand_out(&mut passed, &mut end),
-            None => None,
+        let Some(arrival) = arrivals.get() else {
+            let heard = Heard {
+                arrivals,
+                passed,
+                end,
+            };
+            return Ok((None, heard));
         };
+        let request = arrival.hand_out(&mut passed, &mut end);
         let heard = Heard {
             arrivals,
             passed,
