@@ -15,8 +15,8 @@ mod Halted
 mod Below
 mod Reporting
 mod LegRounds
-mod Alone
-mod Passing
+mod InTurn
+mod PassingOver
 mod Leading
 mod Shown
 mod Sayings

@@ -1,6 +1,6 @@
 -- The messages of frames that were answered, or passed over.
 -- for: stream::answer_messages, stream::answer_input, stream::Switch
-use Rattle.std.proofs.Common.{◌≡◌, ◌<◌, ℕ, ◌+◌, List, [], ◌∷◌, ◌++◌, length, take, get_or, Option, None, ap, sym, subst, ◌∙◌}
+use Rattle.std.proofs.Common.{◌≡◌, ◌<◌, ℕ, ◌+◌, List, [], ◌∷◌, ◌++◌, length, take, get_or, Option, None, sym, subst}
 use Rattle.std.specs.Global.{Vec}
 use Rattle.sw_frame.specs.Feeds.{messages}
 use Rattle.run_input.specs.Requests.{Reading, headers_in, passed_over, reading_of, readings}

@@ -196,8 +196,7 @@ impl<S: Alter + Drop> Switch<S> {
     {
         let mut switch = self;
         switch.cut_traced(edge)?;
-        let served =
-            answer_stream::<S, T, Brand, L, R, O, E>(edge, switch, advisor, stream, out)?;
+        let served = answer_stream::<S, T, Brand, L, R, O, E>(edge, switch, advisor, stream, out)?;
         let (mut switch, end) = served;
         let closed = switch.close(edge, advisor, out);
         let traced = edge.stderr.trace(edge.alloc, switch.engine());

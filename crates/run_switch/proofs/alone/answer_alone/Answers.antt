@@ -1,5 +1,5 @@
 use Rattle.run_input.proofs.Hearings.{came_so_far}
-use Rattle.run_switch.proofs.Alone.{alone_answered, halts_alone, halts_unheard}
+use Rattle.run_switch.proofs.InTurn.{alone_answered, halts_alone, halts_unheard}
 use Rattle.run_switch.proofs.Stops.{on_err_of}
 use Rattle.run_switch.proofs.alone.answer_alone.Goals as goal
 

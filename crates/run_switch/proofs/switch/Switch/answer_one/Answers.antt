@@ -1,4 +1,4 @@
-use Rattle.run_switch.proofs.Alone.{halts_later, halts_one, halts_passing, in_turn}
+use Rattle.run_switch.proofs.InTurn.{halts_later, halts_one, halts_passing, in_turn}
 use Rattle.run_switch.proofs.Rounds.{on_ok}
 use Rattle.run_switch.proofs.Stops.{drains_all, on_err_of}
 use Rattle.run_switch.proofs.switch.Switch.answer_one.Goals as goal

@@ -1,6 +1,6 @@
 use Rattle.run_switch.specs.Points.{all_answered, point_of}
 use Rattle.run_switch.proofs.LegRounds.{finished}
-use Rattle.run_switch.proofs.Passing.{then_at_once, then_drained, then_passing}
+use Rattle.run_switch.proofs.PassingOver.{then_at_once, then_drained, then_passing}
 use Rattle.run_switch.proofs.Rounds.{on_ok}
 use Rattle.run_switch.proofs.Stops.{drains_all, on_err_of}
 use Rattle.run_switch.proofs.switch.Switch.finish_leg.Goals as goal

@@ -1,7 +1,7 @@
 -- Messages that are passed over, whose headers are given back.
 -- for: passing, leg::Switch, stream::Switch
-use Rattle.std.proofs.Common.{◌≡◌, ◌<◌, ℕ, ◌+◌, List, [], ◌∷◌, ◌++◌, length, map, take, drop, take-append-drop, get_or, Option, sym, ap, subst, ◌∙◌}
-use Rattle.std.proofs.lemmas.List.{length-append, map-append, take_more}
+use Rattle.std.proofs.Common.{◌≡◌, ◌<◌, ◌≤◌, ℕ, ◌+◌, arith, List, [], ◌∷◌, ◌++◌, length, map, take, drop, take-append-drop, get_or, Option, sym, ap, subst, ◌∙◌}
+use Rattle.std.proofs.lemmas.List.{length-append, map-append, take_all, take_more}
 use Rattle.std.specs.Io.KnownBytes.{Appends}
 use Rattle.sw_frame.specs.Stream.{AreFramed}
 use Rattle.run_input.specs.declared.arrival.PassedOver.{PassedOver}
@@ -11,6 +11,11 @@ use Rattle.run_switch.specs.Stopped.{DrainsSome, Halts, HaltsThen}
 use Rattle.run_switch.specs.Traces.{Log, PassesOver, Reports, Tells}
 use Rattle.run_switch.proofs.Rounds.{reports_none, reports_then, serves_returned}
 use Rattle.run_switch.proofs.Stops.{halts_before, halts_none, halts_then}
+
+-- a header that has bytes is given back
+pub framed_back : (h text : List ℕ) → 0 < length h → AreFramed text (h ∷ []) → AreFramed text (if_header h)
+framed_back [] text some framed = absurd (omega (arith, some))
+framed_back (byte ∷ more) text some framed = framed
 
 -- the headers of messages
 abbrev pub headers : List PassedOver → List (List ℕ)
@@ -45,6 +50,11 @@ pub passes_more : (list : List PassedOver) (i : ℕ) (m : PassedOver) (a b c : O
 passes_more list i m a b c k l o lt at s t =
     subst (λ (hs : List (List ℕ)). PassesOver hs a k c o) (sym (headers_next list i m lt at))
     (passes_both (headers (take i list)) (m.header.items ∷ []) a b c k l o s t)
+
+-- all of a list
+pub passes_all : (list : List PassedOver) (i : ℕ) (a b : Option (List ℕ)) (k l : Log) → length list ≤ i → PassesOver (headers (take i list)) a k b l
+    → PassesOver (headers list) a k b l
+passes_all list i a b k l le s = subst (λ (ms : List PassedOver). PassesOver (headers ms) a k b l) (take_all i list le) s
 
 -- up to an error
 

@@ -1,6 +1,6 @@
 -- What came alone, answered in turn, and what comes after it.
 -- for: alone
-use Rattle.std.proofs.Common.{◌≡◌, ℕ, ◌+◌, List, [], ◌∷◌, ◌++◌, length, map, Option, Some, None, refl, sym, ap, subst, ◌∙◌, add-zero, append_assoc, append-nil}
+use Rattle.std.proofs.Common.{◌≡◌, ℕ, ◌+◌, List, [], ◌∷◌, ◌++◌, length, map, Option, Some, refl, sym, ap, subst, ◌∙◌, add-zero, append_assoc, append-nil}
 use Rattle.std.specs.List.{AllByRecursion}
 use Rattle.sw_context.specs.Pairs.{Pairs}
 use Rattle.run_input.specs.declared.arrival.Arrival.{Arrival}
@@ -11,7 +11,7 @@ use Rattle.run_responses.specs.declared.sink.ResponseOrder.{ResponseOrder}
 use Rattle.run_switch.specs.Points.{Point}
 use Rattle.run_switch.specs.Rounds.{AreOfStream, IsOfStream, Round, Serves, Trimmed, offered_in, offering, returned_in, returning}
 use Rattle.run_switch.specs.Stopped.{DrainsSome, Halts, HaltsHeard, HaltsThen}
-use Rattle.run_switch.specs.Traces.{Answered, Cuts, DrainsAll, InTurn, Log, PassesOver, Reports, Settles, Tells}
+use Rattle.run_switch.specs.Traces.{Answered, Cuts, DrainsAll, InTurn, Log, PassesOver, Reports, Tells}
 use Rattle.run_switch.proofs.LegRounds.{halts_since, led_are, reports_end, settles, stream_end, stream_returning}
 use Rattle.run_switch.proofs.Rounds.{reports_both, serves_then}
 use Rattle.run_switch.proofs.Shown.{reports_shown}
