@@ -572,14 +572,14 @@ def any_message(random):
     return spoil_message(random, made) if random.random() < 0.2 else made
 
 
-def stream(random):
-    """Frames, now and then with the last of them cut off, or with something after it that is not a frame."""
+def stream(random, size):
+    """Frames with headers of this size, now and then with the last of them cut off, or with something after it that is not a frame."""
     made = []
     for _ in range(random.choice([0, 1, 2, 10, 30])):
         text = message(random)
         while random.random() < 0.3:
             text = spoil_message(random, text)
-        made.append(messages.framed(text))
+        made.append(messages.framed(bytes(random.choices(range(256), k=size)) + text))
     if made and random.random() < 0.3:
         made[-1] = made[-1][: random.randrange(len(made[-1]) + 1)]
     if random.random() < 0.2:
@@ -590,72 +590,87 @@ def stream(random):
     return made
 
 
+def header_size(random):
+    """How many bytes each header has: mostly none."""
+    return random.choice([0, 0, 0, 1, 4, 24, 64])
+
+
 def decode_case(random, name):
-    parts = stream(random)
-    case = decoded(name, b"".join(parts), random.random() < 0.2 and random)
-    case.remake, case.parts = lambda other: decoded(name, other), parts
+    size = header_size(random)
+    parts = stream(random, size)
+    case = decoded(name, b"".join(parts), random.random() < 0.2 and random, size=size)
+    case.remake, case.parts = lambda other: decoded(name, other, size=size), parts
     return case
 
 
 def mask_case(random, name):
-    parts = stream(random)
-    case = decoded(name, b"".join(parts), is_masked=True)
-    case.remake, case.parts = lambda other: decoded(name, other, is_masked=True), parts
+    size = header_size(random)
+    parts = stream(random, size)
+    case = decoded(name, b"".join(parts), is_masked=True, size=size)
+    case.remake, case.parts = lambda other: decoded(name, other, is_masked=True, size=size), parts
     return case
 
 
-def plain_text(random):
-    """The text of some messages, and their frames, each in the spelling that is written."""
+def plain_text(random, size=0):
+    """The text of some messages with headers of this size, and their frames, each in the spelling that is written."""
     made = []
     for _ in range(random.choice([0, 1, 2, 5, 20])):
         numbers = random.sample(sorted(messages.FORMS), random.randint(0, 8))
         fields = {number: value(random, number) for number in numbers}
         fields = {it: fields[it].upper() if messages.FORMS[it][0] == messages.BINARY else fields[it] for it in fields}
-        made.append(messages.framed(messages.encode(b"%04d" % random.randrange(10_000), fields)))
+        header = bytes(random.choices(range(256), k=size))
+        made.append(messages.framed(header + messages.encode(b"%04d" % random.randrange(10_000), fields)))
     frames = b"".join(made)
-    return messages.decoded(frames)[0], frames
+    return messages.decoded(frames, size=size)[0], frames
 
 
 def encode_case(random, name):
     """A text and its frames; or there and back; or a text with a line or a byte spoilt."""
-    text, frames = plain_text(random)
+    size = header_size(random)
+    option = with_header("", size)
+    text, frames = plain_text(random, size)
     what = random.randrange(4)
     if what == 0:
-        case = Case(name, "cardswitch encode | cardswitch decode", text)
+        case = Case(name, f"cardswitch encode{option} | cardswitch decode{option}", text)
         case.stdout, case.stderr = Exactly(text), Exactly(b"")
         return case
     if what == 1:
-        case = Case(name, "cardswitch decode | cardswitch encode", frames)
+        case = Case(name, f"cardswitch decode{option} | cardswitch encode{option}", frames)
         case.stdout, case.stderr = Exactly(frames), Exactly(b"")
         return case
     lines = text.splitlines(keepends=True)
     if lines and what == 2:
         at, other = random.randrange(len(lines)), random.randrange(len(lines))
-        lines[at] = random.choice([lines[other], b"", lines[at] + lines[other], b"mti 0100\n"])
+        lines[at] = random.choice([lines[other], b"", lines[at] + lines[other], b"mti 0100\n", b"header 00\n"])
         text = b"".join(lines)
     if lines and what == 3:
         text = spoil_bytes(random, text, b"0123456789 \nmAaFf*\r\xff")
-    case = encoded(name, text)
-    case.remake, case.parts = lambda other: encoded(name, other), lines
+    case = encoded(name, text, size)
+    case.remake, case.parts = lambda other: encoded(name, other, size), lines
     return case
 
 
-def encoded(name, text):
-    """The case of `encode` on a text."""
-    case = Case(name, "cardswitch encode", text)
-    frames, refused = messages.encoded(text)
+def with_header(words, size):
+    """The words with the option of headers of this size, if they have bytes."""
+    return f"{words} --header {size}" if size else words
+
+
+def encoded(name, text, size=0):
+    """The case of `encode` on a text whose messages have headers of this size."""
+    case = Case(name, with_header("cardswitch encode", size), text)
+    frames, refused = messages.encoded(text, size)
     case.stdout, case.stderr = Exactly(frames), Exactly(b"")
     if refused:
         case.stderr, case.status = Begins(b"cardswitch: standard input: line %d: " % refused), 1
     return case
 
 
-def decoded(name, text, random=None, is_masked=False):
-    """The case of `decode` on a stream, in random pieces if there is randomness."""
-    case = Case(name, "cardswitch decode --mask" if is_masked else "cardswitch decode", text)
+def decoded(name, text, random=None, is_masked=False, size=0):
+    """The case of `decode` on a stream of messages with headers of this size, in random pieces if there is randomness."""
+    case = Case(name, with_header("cardswitch decode --mask" if is_masked else "cardswitch decode", size), text)
     if random:
         case.pieces = inputs.cut(random, text)
-    printed, is_refused = messages.decoded(text, is_masked)
+    printed, is_refused = messages.decoded(text, is_masked, size)
     case.stdout = Exactly(printed)
     case.stderr, case.status = (Begins(REFUSED), 1) if is_refused else (Exactly(b""), 0)
     return case

@@ -128,18 +128,19 @@ def line(number, value, is_masked=False):
     return b"2* %s\n" % seen
 
 
-def paragraph(number, message, is_masked=False):
-    """What is printed for one frame, and whether the message is refused."""
+def paragraph(number, message, is_masked=False, header=b""):
+    """What is printed for one message after its header, and whether the message is refused."""
+    shown = b"header %s\n" % header.hex().upper().encode() if header else b""
     try:
         mti, fields = decode(message)
     except Refused as refused:
-        return b"message %d refused %s\n" % (number, str(refused).encode()), True
-    lines = [b"message %d\n" % number, b"mti %s\n" % mti]
+        return b"message %d refused %s\n" % (number, str(refused).encode()) + shown, True
+    lines = [b"message %d\n" % number, shown, b"mti %s\n" % mti]
     return b"".join(lines + [line(*pair, is_masked) for pair in fields.items()]), False
 
 
-def decoded(stream, is_masked=False):
-    """What `decode` prints of a stream, and whether anything is refused."""
+def decoded(stream, is_masked=False, size=0):
+    """What `decode` prints of a stream of messages with headers of this size, and whether anything is refused."""
     printed, is_refused, at, number = [], False, 0, 0
     while at < len(stream):
         length = stream[at : at + 4]
@@ -150,7 +151,8 @@ def decoded(stream, is_masked=False):
             left = len(stream) - at
             return b"".join([*printed, b"frame refused Truncated %d\n" % left]), True
         number += 1
-        text, refused = paragraph(number, stream[at + 4 : end], is_masked)
+        content = stream[at + 4 : end]
+        text, refused = paragraph(number, content[size:], is_masked, content[:size])
         printed.append(text)
         is_refused |= refused
         at = end
@@ -183,25 +185,29 @@ def fits(fields, line):
     return (number, value) if length and is_all(alike, value) else None
 
 
-def encoded(text):
-    """The frames that `encode` writes for a text, and the number of the line that it refuses, or None."""
+def encoded(text, size=0):
+    """The frames that `encode` writes for a text whose messages have headers of this size, and the number of the line that it
+    refuses, or None."""
     *lines, rest = text.split(b"\n")
-    written, begun = [], None
+    written, begun, header = [], None, b""
+    awaited = rb"header [0-9A-F]{%d}" % (2 * size)
     for at, line in enumerate(lines, 1):
         field = fits(begun[1], line) if isinstance(begun, tuple) else None
-        if line.startswith(b"message ") and begun != "headed":
-            written += [framed(encode(*begun))] if begun else []
+        if line.startswith(b"message ") and begun not in ("headed", "named"):
+            written += [framed(header + encode(*begun))] if begun else []
             begun = None
             if line != b"message %d" % (len(written) + 1):
                 return b"".join(written), at
-            begun = "headed"
-        elif begun == "headed" and re.fullmatch(rb"mti [0-9]{4}", line):
+            begun, header = "headed" if size else "named", b""
+        elif begun == "headed" and re.fullmatch(awaited, line):
+            begun, header = "named", bytes.fromhex(line[7:].decode())
+        elif begun == "named" and re.fullmatch(rb"mti [0-9]{4}", line):
             begun = (line[4:], {})
         elif field:
             begun[1][field[0]] = field[1]
         else:
             return b"".join(written), at
-    if rest or begun == "headed":
+    if rest or begun in ("headed", "named"):
         return b"".join(written), len(lines) + 1
-    written += [framed(encode(*begun))] if begun else []
+    written += [framed(header + encode(*begun))] if begun else []
     return b"".join(written), None

@@ -6,13 +6,14 @@ use Rattle.flow_model.specs.Check.{IsChecked}
 use Rattle.flow_model.specs.declared.flow.Flow.{Flow}
 use Rattle.cli_io.specs.Written.{AppendsBeginning}
 use Rattle.cli_io.specs.declared.error.IoError.{IoError}
-use Rattle.cli_forms.specs.declared.masking.Masking.{Masking}
+use Rattle.cli_decode.specs.declared.style.FrameStyle.{FrameStyle}
 use Rattle.cli_decode.specs.Decoded.{IsDecodedStream}
 use Rattle.cli_encode.specs.Refusals.{IsRefusal}
 use Rattle.cli_encode.specs.Texts.{IsEncoded}
 use Rattle.cli_flows.specs.Errors.{IsUnwritten, RefusesFile, RefusesImage}
 use Rattle.cli_flows.specs.Subcommands.{IsAssembled, IsListed}
 use Rattle.cli_options.specs.Refusal.{status_of}
+use Rattle.cli_options.specs.declared.choice.DecodeOptions.{DecodeOptions}
 use Rattle.cli_options.specs.declared.choice.Options.{Options}
 use Rattle.cli_options.specs.declared.choice.Options.TheVariants.{Asm, Check, Decode, Encode, Graph, Journal, List as ListImage}
 use Rattle.cli_options.specs.declared.choice.Options.TheVariants.{Recover, Run, Step}
@@ -27,8 +28,12 @@ use Rattle.cardswitch.specs.declared.error.RunError.{RunError}
 use Rattle.cardswitch.specs.declared.error.RunError.TheVariants as error
 
 -- the bytes that were to be read are the text of messages, and their frames are written
-abbrev pub IsEncodedText : Option (List ℕ) → Option (List ℕ) → Option (List ℕ) → Type 0
-IsEncodedText unread written written_now = IfSome unread (λ bytes. IsEncoded bytes written written_now)
+abbrev pub IsEncodedText : ℕ → Option (List ℕ) → Option (List ℕ) → Option (List ℕ) → Type 0
+IsEncodedText header unread written written_now = IfSome unread (λ bytes. IsEncoded header bytes written written_now)
+
+-- how the frames of a stream are read and shown
+abbrev pub style_of : DecodeOptions → FrameStyle
+style_of o = record { masking = o.masking; header = o.header }
 
 -- what is said of the bytes that were to be read and those that are written, `files` being the store over files
 abbrev pub IsDone : {S : Type 0} → Ghosts S → Options → Option (List ℕ) → Option (List ℕ) → Option (List ℕ) → Type 0
@@ -42,8 +47,8 @@ IsDone files (Journal o) unread written written_now = IsLooked o written written
 IsDone files Asm unread written written_now = IsAssembled unread written written_now
 IsDone files ListImage unread written written_now = IsListed unread written written_now
 IsDone files (Graph flow form) unread written written_now = IsDrawn form written written_now
-IsDone files (Decode masking) unread written written_now = IsDecodedStream masking unread written written_now false
-IsDone files Encode unread written written_now = IsEncodedText unread written written_now
+IsDone files (Decode o) unread written written_now = IsDecodedStream (style_of o) unread written written_now false
+IsDone files (Encode header) unread written written_now = IsEncodedText header unread written written_now
 
 -- why a flow file from standard input is refused: it has the fault that is reported, and nothing is written
 abbrev pub IsAsmError : Option (List ℕ) → Option (List ℕ) → Option (List ℕ) → RunError → Type 0
@@ -62,21 +67,21 @@ IsListError unread written written_now error.OutOfMemory = ⊤
 IsListError unread written written_now _ = ⊥
 
 -- why a stream is refused: its text is written, and something of it is refused
-abbrev pub IsDecodeError : Masking → Option (List ℕ) → Option (List ℕ) → Option (List ℕ) → RunError → Type 0
-IsDecodeError masking unread written written_now error.Refused = IsDecodedStream masking unread written written_now true
-IsDecodeError masking unread written written_now (error.Read e) = ⊤
-IsDecodeError masking unread written written_now (error.Write e) = ⊤
-IsDecodeError masking unread written written_now error.OutOfMemory = ⊤
-IsDecodeError masking unread written written_now _ = ⊥
+abbrev pub IsDecodeError : FrameStyle → Option (List ℕ) → Option (List ℕ) → Option (List ℕ) → RunError → Type 0
+IsDecodeError style unread written written_now error.Refused = IsDecodedStream style unread written written_now true
+IsDecodeError style unread written written_now (error.Read e) = ⊤
+IsDecodeError style unread written written_now (error.Write e) = ⊤
+IsDecodeError style unread written written_now error.OutOfMemory = ⊤
+IsDecodeError style unread written written_now _ = ⊥
 
 -- why a text is refused: it is not a text of messages, and the frames before the refused line are written
-abbrev pub IsEncodeFault : Option (List ℕ) → Option (List ℕ) → Option (List ℕ) → RunError → Type 0
-IsEncodeFault unread written written_now (error.Text e) =
-    IfSome unread (λ bytes. IsRefusal bytes e.line written written_now)
-IsEncodeFault unread written written_now (error.Read e) = IfSome unread (λ bytes. written_now ≡ written)
-IsEncodeFault unread written written_now (error.Write e) = ⊤
-IsEncodeFault unread written written_now error.OutOfMemory = ⊤
-IsEncodeFault unread written written_now _ = ⊥
+abbrev pub IsEncodeFault : ℕ → Option (List ℕ) → Option (List ℕ) → Option (List ℕ) → RunError → Type 0
+IsEncodeFault header unread written written_now (error.Text e) =
+    IfSome unread (λ bytes. IsRefusal header bytes e.line written written_now)
+IsEncodeFault header unread written written_now (error.Read e) = IfSome unread (λ bytes. written_now ≡ written)
+IsEncodeFault header unread written written_now (error.Write e) = ⊤
+IsEncodeFault header unread written written_now error.OutOfMemory = ⊤
+IsEncodeFault header unread written written_now _ = ⊥
 
 -- what an error says of the bytes that were to be read and those that are written
 abbrev pub IsErrorOf : Options → Option (List ℕ) → Option (List ℕ) → Option (List ℕ) → RunError → Type 0
@@ -88,8 +93,8 @@ IsErrorOf (Journal o) unread written written_now e = IsLookFault o written writt
 IsErrorOf Asm unread written written_now e = IsAsmError unread written written_now e
 IsErrorOf ListImage unread written written_now e = IsListError unread written written_now e
 IsErrorOf (Graph flow form) unread written written_now e = IsDrawFault form flow.now written written_now e
-IsErrorOf (Decode masking) unread written written_now e = IsDecodeError masking unread written written_now e
-IsErrorOf Encode unread written written_now e = IsEncodeFault unread written written_now e
+IsErrorOf (Decode o) unread written written_now e = IsDecodeError (style_of o) unread written written_now e
+IsErrorOf (Encode header) unread written written_now e = IsEncodeFault header unread written written_now e
 
 -- a run reports messages that it passes over, and writes its trace, and is done all the same; so is a session at a prompt, which
 -- reports lines that it refuses

@@ -4,7 +4,7 @@ ghost use Rattle.std.specs.Io.KnownBytes.{Keeps};
 ghost use Rattle.std.specs.IoError.{error_kind};
 ghost use Rattle.cardswitch.specs.Done.{IsAsmError, IsDecodeError, IsDone, IsEncodeFault, IsEncodedText};
 ghost use Rattle.cardswitch.specs.Done.{IsErrorOf, IsFailed, IsListError, IsQuiet, IsShown};
-ghost use Rattle.cardswitch.specs.Done.{refused_status};
+ghost use Rattle.cardswitch.specs.Done.{refused_status, style_of};
 ghost use Rattle.cardswitch.specs.Drawings.{IsDrawFault, IsDrawn};
 ghost use Rattle.cardswitch.specs.Errors.{run_status};
 ghost use Rattle.cli_decode.specs.Decoded.{IsDecodedStream};
@@ -19,13 +19,13 @@ use crate::looking::look_into;
 use crate::machine::Machine;
 use crate::requests::{answer_requests, recover};
 use crate::steps::step;
-use cli_decode::decode_stream;
+use cli_decode::{FrameStyle, decode_stream};
 use cli_encode::encode_stream;
-use cli_forms::{GraphForm, Masking};
+use cli_forms::GraphForm;
 use cli_graph::draw;
 use cli_io::{Input, IoError, write_out};
 use cli_options::OptionsError;
-use cli_options::choice::Options;
+use cli_options::choice::{DecodeOptions, Options};
 use sqlite_std_file::File;
 use sqlite_store::FileStore;
 use sqlite_trees::store::Store;
@@ -102,30 +102,50 @@ fn graph<O: Write>(
     Ok(draw(alloc, form, &flow, out)?)
 }
 
+// How the frames of a stream are read and shown.
+fn frame_style(options: &DecodeOptions) -> FrameStyle
+    ensures { result ≡ style_of options.now }
+{
+    FrameStyle {
+        masking: options.masking,
+        header: options.header as usize,
+    }
+}
+
 fn decode<R: Read + Drop, O: Write>(
     alloc: Global,
-    masking: Masking,
+    options: &DecodeOptions,
     input: R,
     out: &mut O,
 ) -> Result<(), RunError>
-    ensures done { OnOk result (IsDecodedStream masking
+    ensures done { OnOk result (IsDecodedStream (style_of options.now)
         (R.remaining input) (O.contents out.old) (O.contents out.new) false) }
-    ensures failed { IfErr result (IsDecodeError masking
+    ensures failed { IfErr result (IsDecodeError (style_of options.now)
         (R.remaining input) (O.contents out.old) (O.contents out.new)) }
 {
-    if decode_stream(alloc, masking, &mut Input::new(input), out)? {
+    if decode_stream(alloc, frame_style(options), &mut Input::new(input), out)? {
         return Err(RunError::Refused);
     }
     Ok(())
 }
 
-fn encode<R: Read + Drop, O: Write>(alloc: Global, input: R, out: &mut O) -> Result<(), RunError>
-    ensures done { OnOk result (IsEncodedText
+fn encode<R: Read + Drop, O: Write>(
+    alloc: Global,
+    header: u64,
+    input: R,
+    out: &mut O,
+) -> Result<(), RunError>
+    ensures done { OnOk result (IsEncodedText header
         (R.remaining input) (O.contents out.old) (O.contents out.new)) }
-    ensures failed { IfErr result (IsEncodeFault
+    ensures failed { IfErr result (IsEncodeFault header
         (R.remaining input) (O.contents out.old) (O.contents out.new)) }
 {
-    Ok(encode_stream(alloc, &mut Input::new(input), out)?)
+    Ok(encode_stream(
+        alloc,
+        header as usize,
+        &mut Input::new(input),
+        out,
+    )?)
 }
 
 fn run_subcommand<
@@ -153,8 +173,8 @@ fn run_subcommand<
         Options::Asm => asm(alloc, input, out),
         Options::List => list(alloc, input, out),
         Options::Graph { flow, form } => graph(alloc, rt, flow, *form, out),
-        Options::Decode { masking } => decode(alloc, *masking, input, out),
-        Options::Encode => encode(alloc, input, out),
+        Options::Decode(options) => decode(alloc, options, input, out),
+        Options::Encode { header } => encode(alloc, *header, input, out),
         Options::Recover(options) => recover(machine, options, out),
         Options::Journal(options) => look_into(alloc, rt, options, out),
         Options::Check(options) => check(alloc, rt, options),

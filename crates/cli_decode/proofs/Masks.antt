@@ -9,7 +9,7 @@ use Rattle.iso_mask.specs.Masks.{masked_number}
 use Rattle.iso_msg.specs.Table.{form_of}
 use Rattle.iso_msg.specs.Messages.{Fields, PlainMessage}
 use Rattle.cli_forms.specs.declared.masking.Masking.TheVariants.{On}
-use Rattle.cli_decode.specs.Decoded.{MaskedTextsHide, frame_text, line_of, outcome_text, shown_line, view_text}
+use Rattle.cli_decode.specs.Decoded.{MaskedTextsHide, header_line, headed_text, line_of, outcome_text, shown_line, view_text}
 use Rattle.cli_decode.specs.Masks.{AgreeFields, AgreeMessages, AgreesAs, is_hidden, masked_length}
 
 -- a field's line, by whether it is field 2 and whether it is hidden
@@ -31,11 +31,13 @@ fields_same (f ∷ fs) (g ∷ gs) h =
     (line_same (f.0 == 2) (is_hidden f.0) f.0 f.1 g.1 h.1 ∙ ap (λ n. shown_line On (n, g.1)) h.0)
     ∙ ap (λ (l : List ℕ). shown_line On g ++ l) (fields_same fs gs h.2)
 
-view_same : (n : ℕ) (m k : PlainMessage) → AgreeMessages m k → view_text On n m ≡ view_text On n k
-view_same n m k h =
-    ap (λ (d : List ℕ). codes "message " ++ (decimal n ++ (codes "\nmti " ++ (d ++ (codes "\n" ++ flat_map (shown_line On) m.fields))))) h.0
-    ∙ ap (λ (t : List ℕ). codes "message " ++ (decimal n ++ (codes "\nmti " ++ (k.mti ++ (codes "\n" ++ t))))) (fields_same m.fields k.fields h.1)
+view_same : (n : ℕ) (header : List ℕ) (m k : PlainMessage) → AgreeMessages m k → view_text On n header m ≡ view_text On n header k
+view_same n header m k h =
+    ap (λ (d : List ℕ). codes "message " ++ (decimal n ++ (codes "\n"
+    ++ (header_line header ++ (codes "mti " ++ (d ++ (codes "\n" ++ flat_map (shown_line On) m.fields))))))) h.0
+    ∙ ap (λ (t : List ℕ). codes "message " ++ (decimal n ++ (codes "\n" ++ (header_line header ++ (codes "mti " ++ (k.mti ++ (codes "\n" ++ t)))))))
+    (fields_same m.fields k.fields h.1)
 
 pub texts_hide : MaskedTextsHide
-unfolding frame_text
-texts_hide n f g m k rf rg h = ap (outcome_text On n) rf ∙ view_same n m k h ∙ sym (ap (outcome_text On n) rg)
+unfolding headed_text
+texts_hide n header f g m k rf rg h = ap (outcome_text On n header) rf ∙ view_same n header m k h ∙ sym (ap (outcome_text On n header) rg)

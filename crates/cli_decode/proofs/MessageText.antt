@@ -14,8 +14,8 @@ use Rattle.iso_codec.specs.declared.error.DecodeError.{DecodeError}
 use Rattle.iso_codec.specs.declared.error.DecodeError.TheVariants.{BadContent, Trailing}
 use Rattle.iso_codec.specs.Reads.{◌>>=◌, GivesMessage, text_at, content_is, field_at, fields_at, front_at, read}
 use Rattle.iso_codec.proofs.FrontReads.{Front, ended, then_fields, front_read}
-use Rattle.cli_decode.specs.Decoded.{line_by, shown_line, view_text}
-use Rattle.cli_decode.specs.Printing.{paragraph_of, with_field, with_fields, with_message}
+use Rattle.cli_decode.specs.Decoded.{header_line, line_by, shown_line, view_text}
+use Rattle.cli_decode.specs.Printing.{opening_of, paragraph_of, with_field, with_fields, with_message}
 use Rattle.cli_forms.specs.declared.masking.Masking.{Masking}
 
 module _ (k : Masking) where
@@ -106,17 +106,23 @@ module _ (k : Masking) where
   unfolding with_message
   with_message_is text bytes = front_is text (front_at bytes) ∙ ap (λ (r : Result PlainMessage DecodeError). r >>= messaged text) (front_read bytes)
 
-  abbrev opening : ℕ → List ℕ
-  opening n = (codes "message " ++ decimal n) ++ codes "\nmti "
+  abbrev opening : ℕ → List ℕ → List ℕ
+  opening n header = opening_of n header ++ codes "mti "
 
-  text_is : (n : ℕ) (r : Result PlainMessage DecodeError) → (r >>= messaged (opening n)) ≡ (r >>= λ m. whole (view_text k n m))
-  text_is n (Ok m) =
-      let rest = m.mti ++ (codes "\n" ++ flat_map (shown_line k) m.fields) in
-      ap whole (append_assoc (codes "message " ++ decimal n) (codes "\nmti ") rest ∙ append_assoc (codes "message ") (decimal n) (codes "\nmti " ++ rest))
-  text_is n (Err e) = refl
+  text_is : (n : ℕ) (header : List ℕ) (r : Result PlainMessage DecodeError)
+      → (r >>= messaged (opening n header)) ≡ (r >>= λ m. whole (view_text k n header m))
+  text_is n header (Ok m) =
+      let rest = codes "mti " ++ (m.mti ++ (codes "\n" ++ flat_map (shown_line k) m.fields)) in
+      ap whole (
+      append_assoc (opening_of n header) (codes "mti ") (m.mti ++ (codes "\n" ++ flat_map (shown_line k) m.fields))
+      ∙ append_assoc (codes "message ") (decimal n ++ (codes "\n" ++ header_line header)) rest
+      ∙ ap (λ (t : List ℕ). codes "message " ++ t) (append_assoc (decimal n) (codes "\n" ++ header_line header) rest
+      ∙ ap (λ (t : List ℕ). decimal n ++ t) (append_assoc (codes "\n") (header_line header) rest))
+      )
+  text_is n header (Err e) = refl
 
-  pub paragraph_by : (text new bytes : List ℕ) (n : ℕ) (r : Result (Unit {0}) DecodeError) → text ≡ opening n →
-      GivesMessage (λ x. new) r (with_message k text bytes) → GivesMessage (λ x. new) r (paragraph_of k n bytes)
-  paragraph_by text new bytes n r is g =
+  pub paragraph_by : (text new header bytes : List ℕ) (n : ℕ) (r : Result (Unit {0}) DecodeError) → text ≡ opening n header →
+      GivesMessage (λ x. new) r (with_message k text bytes) → GivesMessage (λ x. new) r (paragraph_of k n header bytes)
+  paragraph_by text new header bytes n r is g =
       subst (λ (s : Result (List ℕ) DecodeError). GivesMessage (λ x. new) r s)
-      (ap (λ (t : List ℕ). with_message k t bytes) is ∙ with_message_is (opening n) bytes ∙ text_is n (read bytes)) g
+      (ap (λ (t : List ℕ). with_message k t bytes) is ∙ with_message_is (opening n header) bytes ∙ text_is n header (read bytes)) g

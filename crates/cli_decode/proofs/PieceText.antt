@@ -10,16 +10,16 @@ use Rattle.std.proofs.lemmas.List.Folds.{list_any-append}
 use Rattle.sw_frame.specs.Stream.{State, Stream, AreFramed}
 use Rattle.sw_frame.specs.Feeds.{messages}
 use Rattle.cli_decode.specs.declared.decoder.Decoder.{Decoder}
-use Rattle.cli_decode.specs.Decoded.{frames_text, is_refused}
+use Rattle.cli_decode.specs.Decoded.{frames_text, is_refused_in}
 use Rattle.cli_decode.specs.Progress.{IsDecoded}
-use Rattle.cli_forms.specs.declared.masking.Masking.{Masking}
+use Rattle.cli_decode.specs.declared.style.FrameStyle.{FrameStyle}
 
 -- three texts, one after the other
 pub appended : (old first second new a b e : List ℕ) → first ≡ old ++ a → second ≡ first ++ b → new ≡ second ++ e → new ≡ old ++ (a ++ (b ++ e))
 appended old first second new a b e one two three =
     three ∙ ap (λ xs. xs ++ e) (two ∙ ap (λ xs. xs ++ b) one) ∙ append_assoc (old ++ a) b e ∙ append_assoc old a (b ++ e)
 
-module _ (k : Masking) where
+module _ (k : FrameStyle) where
   -- each frame has bytes
   frames_short : (text : List ℕ) (fs : List (List ℕ)) → AreFramed text fs → length fs ≤ length text
   frames_short text [] h = omega arith
@@ -38,11 +38,11 @@ module _ (k : Masking) where
 
   -- after a piece that made these messages whole
   pub went : (bytes piece : List ℕ) (fs : List (List ℕ)) (ms xs : List (Vec ℕ)) (d e : Decoder) (old new : List ℕ) (first : ℕ) (any : Bool)
-      → IsDecoded bytes fs d → length (bytes ++ piece) < 2 ^ 63 → Stream (bytes ++ piece) (fs ++ messages ms) e.framer
+      → IsDecoded k bytes fs d → length (bytes ++ piece) < 2 ^ 63 → Stream (bytes ++ piece) (fs ++ messages ms) e.framer
       → xs ≡ ms → first ≡ min (d.count + 1) (2 ^ 64 - 1) → e.count ≡ min (d.count + length xs) (2 ^ 64 - 1)
-      → any ≡ list_any is_refused (messages xs) → e.refused ≡ (d.refused || any)
+      → any ≡ list_any (is_refused_in k) (messages xs) → e.refused ≡ (d.refused || any)
       → (first + length xs < 2 ^ 64 → new ≡ old ++ frames_text k first (messages xs))
-      → IsDecoded (bytes ++ piece) (fs ++ messages ms) e × (new ≡ old ++ frames_text k (length fs + 1) (messages ms))
+      → IsDecoded k (bytes ++ piece) (fs ++ messages ms) e × (new ≡ old ++ frames_text k (length fs + 1) (messages ms))
   went bytes piece fs ms xs d e old new first any h few stream is number count refused whole text =
       let long : length xs ≡ length ms = ap length is in
       let short : length (fs ++ messages ms) ≤ length (bytes ++ piece) = stream_short (bytes ++ piece) (fs ++ messages ms) e.framer stream in
@@ -55,22 +55,23 @@ module _ (k : Masking) where
         record {
           stream = stream;
           counted = ends;
-          refused = whole ∙ ap (λ b. b || any) h.refused ∙ ap (λ b. list_any is_refused fs || b) (refused ∙ ap (λ ys. list_any is_refused (messages ys)) is)
-              ∙ sym (list_any-append is_refused fs (messages ms));
+          refused = whole ∙ ap (λ b. b || any) h.refused
+              ∙ ap (λ b. list_any (is_refused_in k) fs || b) (refused ∙ ap (λ ys. list_any (is_refused_in k) (messages ys)) is)
+              ∙ sym (list_any-append (is_refused_in k) fs (messages ms));
         },
         text small ∙ ap (λ ys. old ++ frames_text k first (messages ys)) is ∙ ap (λ n. old ++ frames_text k n (messages ms)) begins,
       )
 
   -- after a piece that made no message whole
   pub stayed : (bytes piece : List ℕ) (fs : List (List ℕ)) (d e : Decoder) (old : List ℕ)
-      → IsDecoded bytes fs d → Stream (bytes ++ piece) fs e.framer → e.count ≡ d.count → e.refused ≡ d.refused
-      → IsDecoded (bytes ++ piece) (fs ++ []) e × (old ≡ old ++ frames_text k (length fs + 1) [])
+      → IsDecoded k bytes fs d → Stream (bytes ++ piece) fs e.framer → e.count ≡ d.count → e.refused ≡ d.refused
+      → IsDecoded k (bytes ++ piece) (fs ++ []) e × (old ≡ old ++ frames_text k (length fs + 1) [])
   stayed bytes piece fs d e old h stream count refused =
       let none : fs ++ [] ≡ fs = append-nil fs in (
         record {
           stream = subst (λ gs. Stream (bytes ++ piece) gs e.framer) (sym none) stream;
           counted = count ∙ h.counted ∙ sym (ap length none);
-          refused = refused ∙ h.refused ∙ sym (ap (list_any is_refused) none);
+          refused = refused ∙ h.refused ∙ sym (ap (list_any (is_refused_in k)) none);
         },
         sym (append-nil old),
       )

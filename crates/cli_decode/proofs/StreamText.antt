@@ -9,10 +9,10 @@ use Rattle.std.proofs.lemmas.List.{take-append-le}
 use Rattle.sw_frame.specs.Stream.{State, Stream, Ends}
 use Rattle.sw_base.specs.Digits.{number_of}
 use Rattle.cli_decode.specs.declared.decoder.Decoder.{Decoder}
-use Rattle.cli_decode.specs.Decoded.{frames_text, frame_text, end_text, is_cut, stream_text, has_refusal}
+use Rattle.cli_decode.specs.Decoded.{frames_text, styled_text, end_text, is_cut, stream_text, has_refusal}
 use Rattle.cli_decode.specs.Progress.{IsSoFar}
 use Rattle.cli_decode.specs.Steps.{DecodesPiece}
-use Rattle.cli_forms.specs.declared.masking.Masking.{Masking}
+use Rattle.cli_decode.specs.declared.style.FrameStyle.{FrameStyle}
 
 pub take_short : (n : ℕ) (old new : List ℕ) → length old ≡ 65536 → length new ≡ length old → n ≤ length new → length (take n new) ≤ 65536
 take_short n old new long same within = let e : length (take n new) ≡ n = length-take-le n new within in omega arith
@@ -21,14 +21,14 @@ pub not_false : (b : Bool) → not b ≡ false → b ≡ true
 not_false true h = refl
 not_false false h = absurd (cc)
 
-module _ (k : Masking) where
+module _ (k : FrameStyle) where
   frames_text-append : (n : ℕ) (fs gs : List (List ℕ)) → frames_text k n (fs ++ gs) ≡ frames_text k n fs ++ frames_text k (length fs + n) gs
   frames_text-append n [] gs = ap (λ (j : ℕ). frames_text k j gs) (let e : n ≡ 0 + n = omega arith in e)
   frames_text-append n (f ∷ fs) gs =
-      ap (λ ys. frame_text k n f ++ ys) (frames_text-append (n + 1) fs gs)
-      ∙ ap (λ (j : ℕ). frame_text k n f ++ (frames_text k (n + 1) fs ++ frames_text k j gs)) (let e : length fs + (n + 1) ≡ length (f ∷ fs) + n =
+      ap (λ ys. styled_text k n f ++ ys) (frames_text-append (n + 1) fs gs)
+      ∙ ap (λ (j : ℕ). styled_text k n f ++ (frames_text k (n + 1) fs ++ frames_text k j gs)) (let e : length fs + (n + 1) ≡ length (f ∷ fs) + n =
       omega arith in e)
-      ∙ sym (append_assoc (frame_text k n f) (frames_text k (n + 1) fs) (frames_text k (length (f ∷ fs) + n) gs))
+      ∙ sym (append_assoc (styled_text k n f) (frames_text k (n + 1) fs) (frames_text k (length (f ∷ fs) + n) gs))
 
   -- one more piece
   pub turned : (first r0 r1 start w0 w1 : Option (List ℕ)) (reads0 reads1 : ℕ) (d e : Decoder) (piece text : List ℕ)
@@ -109,7 +109,7 @@ module _ (k : Masking) where
   pub ended : (first r start w0 w1 : Option (List ℕ)) (reads : ℕ) (d : Decoder) (refused : Bool)
       → IsSoFar k first r start w0 reads d → IsAtEnd r ⊎ (d.framer.failed ≡ true) → Appends w0 w1 (end_text d.framer)
       → refused ≡ (d.refused || is_cut d.framer)
-      → IfSome first (λ bytes. (fs : List (List ℕ)) × (s : State) × Stream bytes fs s × Appends start w1 (stream_text k fs s) × (refused ≡ has_refusal fs s))
+      → IfSome first (λ bytes. (fs : List (List ℕ)) × (s : State) × Stream bytes fs s × Appends start w1 (stream_text k fs s) × (refused ≡ has_refusal k fs s))
   ended None r start w0 w1 reads d refused h why wrote is = tt
   ended (Some xs) None start w0 w1 reads d refused h why wrote is = absurd h.consumed
   ended (Some xs) (Some ys) start w0 w1 reads d refused h why wrote is = (

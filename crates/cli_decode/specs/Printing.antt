@@ -5,7 +5,8 @@ use Rattle.iso_msg.specs.Table.{form_of}
 use Rattle.iso_codec.specs.declared.error.DecodeError.{DecodeError}
 use Rattle.iso_codec.specs.declared.error.DecodeError.TheVariants.{FieldNotInProfile, Trailing}
 use Rattle.iso_codec.specs.Reads.{◌>>=◌, text_at, content_is, front_at, read}
-use Rattle.cli_decode.specs.Decoded.{line_by, view_text}
+use Rattle.std.specs.Fmt.{decimal}
+use Rattle.cli_decode.specs.Decoded.{header_line, line_by, view_text}
 use Rattle.cli_forms.specs.declared.masking.Masking.{Masking}
 
 -- a text with the line of a value that the field takes, and the bytes after it
@@ -32,6 +33,10 @@ with_message k text bytes = do
   x ← with_fields k ((text ++ front.0) ++ codes "\n") front.1 front.2
   if length x.1 == 0 then Ok x.0 else Err Trailing
 
--- the text of the message that bytes spell
-abbrev pub paragraph_of : Masking → ℕ → List ℕ → Result (List ℕ) DecodeError
-paragraph_of k n bytes = read bytes >>= λ m. Ok (view_text k n m)
+-- the text of the message that bytes spell, after its header
+abbrev pub paragraph_of : Masking → ℕ → List ℕ → List ℕ → Result (List ℕ) DecodeError
+paragraph_of k n header bytes = read bytes >>= λ m. Ok (view_text k n header m)
+
+-- the lines before a message's type
+abbrev pub opening_of : ℕ → List ℕ → List ℕ
+opening_of n header = codes "message " ++ (decimal n ++ (codes "\n" ++ header_line header))

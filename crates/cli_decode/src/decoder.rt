@@ -4,10 +4,10 @@ ghost use Rattle.std.specs.Prelude.{◌≡◌, ◌+◌, ◌^◌, ◌<◌, ◌||�
 ghost use Rattle.std.specs.List.{list_any};
 ghost use Rattle.sw_frame.specs.Stream.{blank};
 ghost use Rattle.sw_frame.specs.Feeds.{messages as messages_of};
-ghost use Rattle.cli_decode.specs.Decoded.{cut_text, end_text, frames_text, is_cut, is_refused};
+ghost use Rattle.cli_decode.specs.Decoded.{cut_text, end_text, frames_text, is_cut, is_refused_in};
 
-use crate::text::{push_frame, push_number};
-use cli_forms::Masking;
+use crate::style::FrameStyle;
+use crate::text::{push_number, push_styled};
 use std::alloc::{AllocError, Global};
 use sw_frame::{FrameError, Framer};
 
@@ -31,20 +31,20 @@ fn either(one: bool, other: bool) -> bool
 fn push_frames(
     alloc: Global,
     text: &mut Vec<u8>,
-    masking: Masking,
+    style: FrameStyle,
     first: u64,
     messages: &[Vec<u8>],
 ) -> Result<bool, AllocError>
     ensures text { OnOk result (first + length messages.now < 2 ^ 64
         → text.new.items
-        ≡ text.old.items ++ frames_text masking first (messages_of messages.now)) }
-    ensures refused { IfOk result (λ b. b ≡ list_any is_refused (messages_of messages.now)) }
+        ≡ text.old.items ++ frames_text style first (messages_of messages.now)) }
+    ensures refused { IfOk result (λ b. b ≡ list_any (is_refused_in style) (messages_of messages.now)) }
 {
     let mut refused = false;
     let mut number = first;
     let mut paragraph = Vec::new(alloc);
     for message in messages {
-        if push_frame(&mut paragraph, text, masking, number, message)? {
+        if push_styled(&mut paragraph, text, style, number, message)? {
             refused = true;
         }
         number = number.saturating_add(1);
@@ -65,7 +65,7 @@ fn push_cut(text: &mut Vec<u8>, pending: u64) -> Result<(), AllocError>
 impl Decoder {
     ghost use Rattle.std.specs.Prelude.{◌≡◌, ◌||◌, ◌++◌, OnOk, IfOk, false};
     ghost use Rattle.sw_frame.specs.Stream.{blank};
-    ghost use Rattle.cli_decode.specs.Decoded.{end_text, frames_text, is_cut, is_refused};
+    ghost use Rattle.cli_decode.specs.Decoded.{end_text, is_cut};
     ghost use Rattle.cli_decode.specs.Steps.{DecodesPiece};
 
     /// A decoder of a stream of which nothing has come yet.
@@ -93,18 +93,18 @@ impl Decoder {
     pub fn piece(
         &mut self,
         alloc: Global,
-        masking: Masking,
+        style: FrameStyle,
         piece: &[u8],
         text: &mut Vec<u8>,
     ) -> Result<(), AllocError>
-        ensures { OnOk result (DecodesPiece masking self.old piece.now self.new
+        ensures { OnOk result (DecodesPiece style self.old piece.now self.new
             text.old.items text.new.items) }
     {
         match self.framer.feed(piece) {
             Ok(messages) => {
                 let whole = messages.as_slice();
                 let first = self.count.saturating_add(1);
-                let refused = push_frames(alloc, text, masking, first, whole)?;
+                let refused = push_frames(alloc, text, style, first, whole)?;
                 self.count = self.count.saturating_add(whole.len() as u64);
                 self.refused = either(self.refused, refused);
                 Ok(())

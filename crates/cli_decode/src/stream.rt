@@ -8,7 +8,7 @@ ghost use Rattle.cli_decode.specs.Decoded.{IsDecodedStream, end_text, is_cut};
 ghost use Rattle.cli_decode.specs.Steps.{DecodingGoesOn, PrintsPiece};
 
 use crate::decoder::Decoder;
-use cli_forms::Masking;
+use crate::style::FrameStyle;
 use cli_io::{Input, IoError, write_out};
 use std::alloc::Global;
 use std::io::{Read, Write};
@@ -26,17 +26,17 @@ fn write_text<W: Write>(out: &mut W, text: &[u8]) -> Result<(), IoError>
 // Writes the texts of the messages that a piece completes.
 fn print_piece<W: Write>(
     alloc: Global,
-    masking: Masking,
+    style: FrameStyle,
     decoder: &mut Decoder,
     piece: &[u8],
     out: &mut W,
 ) -> Result<(), IoError>
-    ensures printed { OnOk result (PrintsPiece masking decoder.old piece.now decoder.new
+    ensures printed { OnOk result (PrintsPiece style decoder.old piece.now decoder.new
         (W.contents out.old) (W.contents out.new)) }
     ensures writing { IfErr result IsOfWriting }
 {
     let mut text = Vec::with_capacity(alloc, PIECE + PIECE / 2)?;
-    decoder.piece(alloc, masking, piece, &mut text)?;
+    decoder.piece(alloc, style, piece, &mut text)?;
     write_text(out, text.as_slice())?;
     Ok(())
 }
@@ -45,14 +45,14 @@ fn print_piece<W: Write>(
 // come.
 fn decode_piece<R: Read, W: Write>(
     alloc: Global,
-    masking: Masking,
+    style: FrameStyle,
     input: &mut Input<R>,
     decoder: &mut Decoder,
     buf: &mut [u8],
     out: &mut W,
 ) -> Result<bool, IoError>
     requires { length buf.old ≡ 65536 }
-    ensures goes_on { IfOk result (DecodingGoesOn masking
+    ensures goes_on { IfOk result (DecodingGoesOn style
         (record {
           unread = unread R.remaining input.old;
           written = W.contents out.old;
@@ -72,7 +72,7 @@ fn decode_piece<R: Read, W: Write>(
     if count == 0 {
         return Ok(false);
     }
-    print_piece(alloc, masking, decoder, &buf[..count], out)?;
+    print_piece(alloc, style, decoder, &buf[..count], out)?;
     Ok(!decoder.failed())
 }
 
@@ -95,18 +95,18 @@ fn finish<W: Write>(alloc: Global, decoder: &Decoder, out: &mut W) -> Result<boo
 /// error remains.
 pub fn decode_stream<R: Read, W: Write>(
     alloc: Global,
-    masking: Masking,
+    style: FrameStyle,
     input: &mut Input<R>,
     out: &mut W,
 ) -> Result<bool, IoError>
-    ensures text { IfOk result (IsDecodedStream masking (unread R.remaining input.old)
+    ensures text { IfOk result (IsDecodedStream style (unread R.remaining input.old)
         (W.contents out.old) (W.contents out.new)) }
     ensures too_many { IfErr result (IsSpentAt (reads_made input.new)) }
 {
     let mut decoder = Decoder::new(alloc);
     let mut buf = [0u8; PIECE];
     loop {
-        let more = decode_piece(alloc, masking, input, &mut decoder, &mut buf, out)?;
+        let more = decode_piece(alloc, style, input, &mut decoder, &mut buf, out)?;
         if !more {
             let refused = finish(alloc, &decoder, out)?;
             return Ok(refused);

@@ -1,16 +1,18 @@
 //! The text of one message.
 
-ghost use Rattle.std.specs.Prelude.{◌≡◌, ◌++◌, Some, codes, OnOk, IfOk, Ok, Err};
+ghost use Rattle.std.specs.Prelude.{◌≡◌, ◌++◌, Some, codes, drop, take, OnOk, IfOk, Ok, Err};
 ghost use Rattle.std.specs.Fmt.{decimal};
 ghost use Rattle.iso_msg.specs.Table.{IsForm, form_of};
 ghost use Rattle.iso_codec.specs.Reads.{GivesMessage};
-ghost use Rattle.cli_decode.specs.Decoded.{fault_name as name_of, frame_text, is_refused};
-ghost use Rattle.cli_decode.specs.Decoded.{line_by, line_of, refused_text, shown};
-ghost use Rattle.cli_decode.specs.Printing.{paragraph_of, with_field, with_fields};
+ghost use Rattle.cli_decode.specs.Decoded.{fault_name as name_of, frame_text, headed_text, header_line};
+ghost use Rattle.cli_decode.specs.Decoded.{is_refused, is_refused_in, line_by, line_of, refused_text, shown};
+ghost use Rattle.cli_decode.specs.Decoded.{styled_text};
+ghost use Rattle.cli_decode.specs.Printing.{opening_of, paragraph_of, with_field, with_fields};
 ghost use Rattle.cli_decode.specs.Printing.{with_form, with_message, with_value};
 
 use crate::mask::push_masked;
 use crate::masking::is_sensitive;
+use crate::style::FrameStyle;
 use cli_forms::Masking;
 use iso_codec::{
     DecodeError, Numbers, check_content, push_hex, read_binary, read_front, read_variable, split,
@@ -182,35 +184,91 @@ fn fault_name(error: DecodeError) -> &'static str
     }
 }
 
-fn push_refusal(text: &mut Vec<u8>, number: u64, error: DecodeError) -> Result<(), AllocError>
-    ensures { OnOk result (text.new.items ≡ text.old.items ++ refused_text number error) }
+// Adds the line of a header, if it has bytes.
+fn push_header(text: &mut Vec<u8>, header: &[u8]) -> Result<(), AllocError>
+    ensures { OnOk result (text.new.items ≡ text.old.items ++ header_line header.now) }
+{
+    if header.is_empty() {
+        return Ok(());
+    }
+    text.extend_from_slice(b"header ")?;
+    push_hex(text, header)?;
+    text.extend_from_slice(b"\n")
+}
+
+fn push_refusal(
+    text: &mut Vec<u8>,
+    number: u64,
+    header: &[u8],
+    error: DecodeError,
+) -> Result<(), AllocError>
+    ensures { OnOk result (text.new.items
+        ≡ text.old.items ++ refused_text number header.now error) }
 {
     text.extend_from_slice(b"message ")?;
     push_number(text, number)?;
     text.extend_from_slice(b" refused ")?;
     text.extend_from_slice(fault_name(error).as_bytes())?;
-    text.extend_from_slice(b"\n")
+    text.extend_from_slice(b"\n")?;
+    push_header(text, header)
 }
 
-// Replaces the paragraph by the text of the message of this number.
+// Adds the lines before a message's type.
+fn push_opening(text: &mut Vec<u8>, number: u64, header: &[u8]) -> Result<(), AllocError>
+    ensures { OnOk result (text.new.items ≡ text.old.items ++ opening_of number header.now) }
+{
+    text.extend_from_slice(b"message ")?;
+    push_number(text, number)?;
+    text.extend_from_slice(b"\n")?;
+    push_header(text, header)
+}
+
+// Replaces the paragraph by the text of the message of this number, after its header.
 fn write_paragraph(
     paragraph: &mut Vec<u8>,
     masking: Masking,
     number: u64,
+    header: &[u8],
     bytes: &[u8],
 ) -> Result<(), DecodeError>
-    ensures { GivesMessage (λ _. paragraph.new.items) result (paragraph_of masking number bytes.now) }
+    ensures { GivesMessage (λ _. paragraph.new.items) result
+        (paragraph_of masking number header.now bytes.now) }
 {
     paragraph.clear();
-    paragraph.extend_from_slice(b"message ")?;
-    push_number(paragraph, number)?;
-    paragraph.extend_from_slice(b"\nmti ")?;
+    push_opening(paragraph, number, header)?;
+    paragraph.extend_from_slice(b"mti ")?;
     push_message(paragraph, masking, bytes)
 }
 
-/// Adds the text of the frame of this number, and answers whether it is refused. The text of a message is
-/// first written to `paragraph`, and what was there is lost.
-#[tactic(auto, unfolding(crate::specs::Decoded::frame_text, crate::specs::Decoded::is_refused))]
+// Adds the text of the message of this number after its header, and answers whether it is refused.
+#[tactic(auto, unfolding(crate::specs::Decoded::headed_text, crate::specs::Decoded::is_refused))]
+fn push_headed(
+    paragraph: &mut Vec<u8>,
+    text: &mut Vec<u8>,
+    masking: Masking,
+    number: u64,
+    header: &[u8],
+    bytes: &[u8],
+) -> Result<bool, AllocError>
+    ensures text { OnOk result (text.new.items ≡ text.old.items
+        ++ headed_text masking number header.now bytes.now) }
+    ensures refused { IfOk result (λ b. b ≡ is_refused bytes.now) }
+{
+    match write_paragraph(paragraph, masking, number, header, bytes) {
+        Ok(()) => {
+            text.extend_from_slice(paragraph)?;
+            Ok(false)
+        }
+        Err(DecodeError::OutOfMemory) => Err(AllocError),
+        Err(error) => {
+            push_refusal(text, number, header, error)?;
+            Ok(true)
+        }
+    }
+}
+
+/// Adds the text of the message of this number, which has no header, and answers whether it is refused. The text of
+/// a message is first written to `paragraph`, and what was there is lost.
 pub fn push_frame(
     paragraph: &mut Vec<u8>,
     text: &mut Vec<u8>,
@@ -222,15 +280,34 @@ pub fn push_frame(
         ++ frame_text masking number bytes.now) }
     ensures refused { IfOk result (λ b. b ≡ is_refused bytes.now) }
 {
-    match write_paragraph(paragraph, masking, number, bytes) {
-        Ok(()) => {
-            text.extend_from_slice(paragraph)?;
-            Ok(false)
-        }
-        Err(DecodeError::OutOfMemory) => Err(AllocError),
-        Err(error) => {
-            push_refusal(text, number, error)?;
-            Ok(true)
-        }
+    push_headed(paragraph, text, masking, number, &[], bytes)
+}
+
+// The header of a frame, which has this many bytes, and what comes after it. A frame that is shorter is all header.
+fn split_frame(frame: &[u8], header: usize) -> (&[u8], &[u8])
+    ensures header { result.0.now ≡ take header frame.now }
+    ensures message { result.1.now ≡ drop header frame.now }
+{
+    if header < frame.len() {
+        frame.split_at(header)
+    } else {
+        frame.split_at(frame.len())
     }
+}
+
+/// Adds the text of the frame of this number, and answers whether its message is refused. The text of a message is
+/// first written to `paragraph`, and what was there is lost.
+pub fn push_styled(
+    paragraph: &mut Vec<u8>,
+    text: &mut Vec<u8>,
+    style: FrameStyle,
+    number: u64,
+    frame: &[u8],
+) -> Result<bool, AllocError>
+    ensures text { OnOk result (text.new.items ≡ text.old.items
+        ++ styled_text style number frame.now) }
+    ensures refused { IfOk result (λ b. b ≡ is_refused_in style frame.now) }
+{
+    let (header, message) = split_frame(frame, style.header);
+    push_headed(paragraph, text, style.masking, number, header, message)
 }

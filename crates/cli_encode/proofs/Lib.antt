@@ -1,8 +1,11 @@
 mod Cuts
 mod Numbers
 mod Octets
+mod Headers
+mod Lengths
 mod LineTexts
 mod Points
 mod Runs
+mod Sizes
 mod Readings
 mod RoundTrips

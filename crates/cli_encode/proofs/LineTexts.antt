@@ -10,7 +10,7 @@ use Rattle.iso_msg.specs.Table.{form_of}
 use Rattle.iso_msg.specs.Messages.{IsMti}
 use Rattle.sw_base.specs.Digits.{is_digit}
 use Rattle.cli_decode.specs.Decoded.{shown}
-use Rattle.cli_encode.specs.Lines.{PlainLine, Heading, MessageType, Field, has_byte, IsOnLine, IsLine, line_bytes, SaysNoField, SaysNothing, IsNoValueOf}
+use Rattle.cli_encode.specs.Lines.{PlainLine, Heading, Header, MessageType, Field, has_byte, IsOnLine, IsLine, line_bytes, SaysNoField, SaysNothing, IsNoValueOf}
 use Rattle.cli_encode.specs.Lines.{IsNoNumber, IsNotBefore}
 use Rattle.std.proofs.lemmas.Bool.{leb-true}
 use Rattle.iso_msg.proofs.Bools.{and_both, eqb-false_from}
@@ -60,22 +60,37 @@ plain_value (Some (Variable content length_digits most)) text other none = (refl
 no_m : (n : ℕ) (v ys : List ℕ) → n < 256 → line_bytes (Field n v) ≡ 109 ∷ ys → ⊥
 no_m n v ys h e = no_letter n 109 (32 ∷ shown (form_of n) v) ys h (omega arith) e
 
+-- nor with h
+no_h : (n : ℕ) (v ys : List ℕ) → n < 256 → line_bytes (Field n v) ≡ 104 ∷ ys → ⊥
+no_h n v ys h e = no_letter n 104 (32 ∷ shown (form_of n) v) ys h (omega arith) e
+
+no_header : (d ys : List ℕ) → codes "header " ++ d ≡ 109 ∷ ys → ⊥
+no_header d ys e = absurd (omega (arith, head_is 104 109 _ ys e))
+
 other_words : (w d : List ℕ) → codes "message " ++ w ≡ codes "mti " ++ d → ⊥
 other_words w d e = absurd (omega (arith, head_is 101 116 _ _ (tail_is 109 109 _ _ e)))
 
 pub no_type : (line digits : List ℕ) → codes "mti " ++ digits ≡ line → (IsMti digits → ⊥) → SaysNothing line
 no_type line digits whole none (Heading w) h e = other_words w digits (e ∙ sym whole)
+no_type line digits whole none (Header d) h e = no_header d _ (e ∙ sym whole)
 no_type line digits whole none (MessageType d) h e = none (subst IsMti (front_cancels (codes "mti ") d digits (e ∙ sym whole)) h)
 no_type line digits whole none (Field n v) h e = no_m n v _ h.0 (e ∙ sym whole)
 
-pub only_field : (line : List ℕ) → IsNotBefore (codes "message ") line → IsNotBefore (codes "mti ") line → SaysNoField line → SaysNothing line
-only_field line heading type none (Heading w) h e = heading w e
-only_field line heading type none (MessageType d) h e = type d e
-only_field line heading type none (Field n v) h e = none n v h e
+pub only_field : (line : List ℕ) → IsNotBefore (codes "message ") line → IsNotBefore (codes "header ") line → IsNotBefore (codes "mti ") line
+    → SaysNoField line → SaysNothing line
+only_field line heading header type none (Heading w) h e = heading w e
+only_field line heading header type none (Header d) h e = header d e
+only_field line heading header type none (MessageType d) h e = type d e
+only_field line heading header type none (Field n v) h e = none n v h e
 
 pub says_heading : (line word : List ℕ) → codes "message " ++ word ≡ line → has_byte 10 line ≡ false →
     (line_bytes (Heading word) ≡ line) × IsLine (Heading word)
 says_heading line word whole none = (whole, (none_in_parts 10 (codes "message ") word (subst (λ (l : List ℕ). has_byte 10 l ≡ false) (sym whole) none)).1)
+
+pub says_header : (line digits : List ℕ) → codes "header " ++ digits ≡ line → has_byte 10 line ≡ false →
+    (line_bytes (Header digits) ≡ line) × IsLine (Header digits)
+says_header line digits whole none =
+    (whole, (none_in_parts 10 (codes "header ") digits (subst (λ (l : List ℕ). has_byte 10 l ≡ false) (sym whole) none)).1)
 
 -- ---- a line says one thing
 
@@ -90,8 +105,15 @@ fields_once n k v w p q = ap (λ j. Field j v) p ∙ ap (λ (x : List ℕ). Fiel
 
 pub line_once : (l k : PlainLine) → IsLine l → IsLine k → line_bytes l ≡ line_bytes k → l ≡ k
 line_once (Heading w) (Heading x) h i e = ap Heading (front_cancels (codes "message ") w x e)
+line_once (Heading w) (Header d) h i e = absurd (no_header d _ (sym e))
 line_once (Heading w) (MessageType d) h i e = absurd (other_words w d e)
 line_once (Heading w) (Field n v) h i e = absurd (no_m n v _ i.0 (sym e))
+line_once (Header d) (Heading w) h i e = absurd (no_header d _ e)
+line_once (Header d) (Header c) h i e = ap Header (front_cancels (codes "header ") d c e)
+line_once (Header d) (MessageType c) h i e = absurd (no_header d _ e)
+line_once (Header d) (Field n v) h i e = absurd (no_h n v _ i.0 (sym e))
+line_once (MessageType d) (Header c) h i e = absurd (no_header c _ (sym e))
+line_once (Field n v) (Header d) h i e = absurd (no_h n v _ h.0 e)
 line_once (MessageType d) (Heading w) h i e = absurd (other_words w d (sym e))
 line_once (MessageType d) (MessageType c) h i e = ap MessageType (front_cancels (codes "mti ") d c e)
 line_once (MessageType d) (Field n v) h i e = absurd (no_m n v _ i.0 (sym e))
@@ -122,5 +144,6 @@ digits_free (d ∷ ds) h =
 
 pub no_feed : (l : PlainLine) → IsLine l → has_byte 10 (line_bytes l) ≡ false
 no_feed (Heading w) h = none_in_both 10 (codes "message ") w refl h
+no_feed (Header d) h = none_in_both 10 (codes "header ") d refl h
 no_feed (MessageType d) h = none_in_both 10 (codes "mti ") d refl (digits_free d h.1)
 no_feed (Field n v) h = none_in_both 10 (decimal n) (32 ∷ shown (form_of n) v) (none_in_number 10 n (omega arith) (few n h.0)) (value_free (form_of n) v h.1)

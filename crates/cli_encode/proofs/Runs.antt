@@ -8,7 +8,7 @@ use Rattle.std.specs.List.{All, flat_map, count_by}
 use Rattle.std.specs.Str.{bytes_eq}
 use Rattle.std.proofs.lemmas.List.Elements.{All-append, All-head, All-tail, All-cons}
 use Rattle.std.proofs.lemmas.Slice.Eq.{bytes_eq-Decides}
-use Rattle.std.proofs.Common.{leb, ◌||◌}
+use Rattle.std.proofs.Common.{eqb, leb, ◌||◌}
 use Rattle.std.specs.List.{list_all}
 use Rattle.std.proofs.lemmas.Bool.{eqb-true, leb-true}
 use Rattle.std.proofs.lemmas.List.Sums.{sum_by-append}
@@ -22,18 +22,23 @@ use Rattle.iso_msg.specs.declared.table.FieldForm.TheVariants.{Fixed, Variable, 
 use Rattle.iso_msg.specs.Table.{form_of}
 use Rattle.iso_msg.specs.Values.{refusal_by, is_text, is_byte, takes}
 use Rattle.iso_msg.specs.Messages.{Fields, PlainMessage, AreFields, IsMessage}
-use Rattle.cli_decode.specs.Decoded.{field_line, message_text, shown}
+use Rattle.cli_decode.specs.Decoded.{field_line, header_line, message_text, shown}
+use Rattle.cli_decode.specs.Printing.{opening_of}
+use Rattle.iso_codec.specs.Spelling.{hex}
 use Rattle.cli_encode.specs.declared.encoder.Stage.{Stage}
 use Rattle.cli_encode.specs.declared.encoder.Stage.TheVariants.{Between, Headed, Open}
-use Rattle.cli_encode.specs.Lines.{PlainLine, Heading, MessageType, Field, IsLine, IsOnLine, ended_line, field_of, has_byte, line_bytes, lines_of_message}
-use Rattle.cli_encode.specs.Lines.{text_of_lines}
-use Rattle.cli_encode.specs.Reading.{Point, closed, closed_at, follows, headed, last_from, last_of, run, start, stage_text, step, step_at, text_of, with_last}
+use Rattle.cli_encode.specs.Lines.{PlainLine, Heading, Header, MessageType, Field, IsLine, IsOnLine, ended_line, field_of, has_byte, line_bytes}
+use Rattle.cli_encode.specs.Headers.{header_from}
+use Rattle.cli_encode.specs.Lines.{header_lines, lines_of_message, text_of_lines}
+use Rattle.cli_encode.specs.Reading.{Point, closed, closed_at, follows, headed, last_from, last_of, named, run, start, stage_text, step, step_at, text_of, with_last}
 use Rattle.cli_encode.specs.Refusals.{IsNoText}
-use Rattle.cli_encode.specs.Texts.{messages_text}
+use Rattle.cli_encode.specs.Texts.{Sent, IsHeader, IsSent, messages_text}
 use Rattle.cli_encode.proofs.Numbers.{none_in_number}
 use Rattle.cli_encode.proofs.Cuts.{cut_once, mark_within}
 use Rattle.cli_encode.proofs.LineTexts.{line_once, no_feed, digits_free}
-use Rattle.cli_encode.proofs.Points.{field_step, heading_step, headed_is, may_follow, type_step}
+use Rattle.cli_encode.proofs.Points.{field_step, header_step, heading_step, headed_is, may_follow, type_step}
+use Rattle.cli_encode.proofs.Headers.{found, header_again_read}
+use Rattle.cli_encode.proofs.Octets.{none_in_hex}
 
 pub point_is : (p q : Point) → Some p ≡ Some q → p ≡ q
 point_is p q e = some_is p q e
@@ -90,9 +95,9 @@ no_more (v ∷ ws) e = absurd (nothing (line_bytes v) (text_of_lines ws) 10 (sym
 
 -- ---- the lines of messages
 
-abbrev pub lines_of : ℕ → List PlainMessage → List PlainLine
+abbrev pub lines_of : ℕ → List Sent → List PlainLine
 lines_of n [] = []
-lines_of n (m ∷ ms) = lines_of_message n m ++ lines_of (n + 1) ms
+lines_of n (x ∷ xs) = lines_of_message n x.0 x.1 ++ lines_of (n + 1) xs
 
 field_text : (f : ℕ × List ℕ) → ended_line (field_of f) ≡ field_line f
 field_text f =
@@ -103,20 +108,40 @@ fields_text : (fs : Fields) → text_of_lines (map field_of fs) ≡ flat_map fie
 fields_text [] = refl
 fields_text (f ∷ fs) = ap (λ (t : List ℕ). t ++ text_of_lines (map field_of fs)) (field_text f) ∙ ap (λ (t : List ℕ). field_line f ++ t) (fields_text fs)
 
-message_lines : (n : ℕ) (m : PlainMessage) → text_of_lines (lines_of_message n m) ≡ message_text n m
-message_lines n m =
-    let fs = flat_map field_line m.fields in
-    ap (λ (t : List ℕ). ended_line (Heading (decimal n)) ++ (ended_line (MessageType m.mti) ++ t)) (fields_text m.fields)
-    ∙ append_assoc (codes "message " ++ decimal n) (codes "\n") (ended_line (MessageType m.mti) ++ fs)
-    ∙ append_assoc (codes "message ") (decimal n) (codes "\n" ++ (ended_line (MessageType m.mti) ++ fs))
-    ∙ ap (λ (t : List ℕ). codes "message " ++ (decimal n ++ (codes "\n" ++ t)))
-    (append_assoc (codes "mti " ++ m.mti) (codes "\n") fs ∙ append_assoc (codes "mti ") m.mti (codes "\n" ++ fs))
+-- a header's line
+header_ended : (b : ℕ) (bs : List ℕ) → ended_line (Header (flat_map hex (b ∷ bs))) ≡ header_line (b ∷ bs)
+header_ended b bs = append_assoc (codes "header ") (flat_map hex (b ∷ bs)) (codes "\n")
 
-pub texts_are : (n : ℕ) (ms : List PlainMessage) → messages_text n ms ≡ text_of_lines (lines_of n ms)
+header_text : (header : List ℕ) → text_of_lines (header_lines header) ≡ header_line header
+header_text [] = refl
+header_text (b ∷ bs) = append-nil (ended_line (Header (flat_map hex (b ∷ bs)))) ∙ header_ended b bs
+
+abbrev type_lines : PlainMessage → List PlainLine
+type_lines m = MessageType m.mti ∷ map field_of m.fields
+
+type_text : (m : PlainMessage) → text_of_lines (type_lines m) ≡ codes "mti " ++ (m.mti ++ (codes "\n" ++ flat_map field_line m.fields))
+type_text m =
+    let fs = flat_map field_line m.fields in
+    ap (λ (t : List ℕ). ended_line (MessageType m.mti) ++ t) (fields_text m.fields)
+    ∙ append_assoc (codes "mti " ++ m.mti) (codes "\n") fs ∙ append_assoc (codes "mti ") m.mti (codes "\n" ++ fs)
+
+message_lines : (n : ℕ) (header : List ℕ) (m : PlainMessage) → text_of_lines (lines_of_message n header m) ≡ message_text n header m
+message_lines n header m =
+    let more = header_line header ++ (codes "mti " ++ (m.mti ++ (codes "\n" ++ flat_map field_line m.fields))) in
+    ap (λ (t : List ℕ). ended_line (Heading (decimal n)) ++ t) (
+    lines_append (header_lines header) (type_lines m)
+    ∙ ap (λ (t : List ℕ). t ++ text_of_lines (type_lines m)) (header_text header)
+    ∙ ap (λ (t : List ℕ). header_line header ++ t) (type_text m)
+    )
+    ∙ append_assoc (codes "message " ++ decimal n) (codes "\n") more
+    ∙ append_assoc (codes "message ") (decimal n) (codes "\n" ++ more)
+
+pub texts_are : (n : ℕ) (xs : List Sent) → messages_text n xs ≡ text_of_lines (lines_of n xs)
 texts_are n [] = refl
-texts_are n (m ∷ ms) =
-    ap (λ (t : List ℕ). message_text n m ++ t) (texts_are (n + 1) ms) ∙ ap (λ (t : List ℕ). t ++ text_of_lines (lines_of (n + 1) ms)) (sym (message_lines n m))
-    ∙ sym (lines_append (lines_of_message n m) (lines_of (n + 1) ms))
+texts_are n (x ∷ xs) =
+    ap (λ (t : List ℕ). message_text n x.0 x.1 ++ t) (texts_are (n + 1) xs)
+    ∙ ap (λ (t : List ℕ). t ++ text_of_lines (lines_of (n + 1) xs)) (sym (message_lines n x.0 x.1))
+    ∙ sym (lines_append (lines_of_message n x.0 x.1) (lines_of (n + 1) xs))
 
 -- ---- the lines of valid messages are lines
 
@@ -149,30 +174,37 @@ fields_valid low (f ∷ fs) a =
     let small : f.0 < 129 = taken_below f.0 f.1 (form_of f.0) refl a.1 in
     All-cons IsLine (field_of f) (map field_of fs) (omega (arith, small), on_line (form_of f.0) f.0 f.1 a.1) (fields_valid f.0 fs a.2)
 
-message_valid : (n : ℕ) (m : PlainMessage) → n < 2 ^ 64 → IsMessage m → All IsLine (lines_of_message n m)
-message_valid n m h v =
-    All-cons IsLine (Heading (decimal n)) (MessageType m.mti ∷ map field_of m.fields) (none_in_number 10 n (omega arith) h)
-    (All-cons IsLine (MessageType m.mti) (map field_of m.fields) v.0 (fields_valid 1 m.fields v.1))
+header_valid : (header : List ℕ) → list_all is_byte header ≡ true → All IsLine (header_lines header)
+header_valid [] h = λ k d l. absurd (omega (arith, l))
+header_valid (b ∷ bs) h = All-cons IsLine (Header (flat_map hex (b ∷ bs))) [] (none_in_hex (b ∷ bs) h) (λ k d l. absurd (omega (arith, l)))
 
-pub lines_valid : (n : ℕ) (ms : List PlainMessage) → n + length ms < 2 ^ 64 → All IsMessage ms → All IsLine (lines_of n ms)
-lines_valid n [] h v = λ k d l. absurd (omega (arith, l))
-lines_valid n (m ∷ ms) h v =
-    All-append IsLine (lines_of_message n m) (lines_of (n + 1) ms)
-    (message_valid n m (omega (arith, h)) (All-head IsMessage m ms v)) (lines_valid (n + 1) ms (omega (arith, h)) (All-tail IsMessage m ms v))
+message_valid : (size n : ℕ) (x : Sent) → n < 2 ^ 64 → IsSent size x → All IsLine (lines_of_message n x.0 x.1)
+message_valid size n x h v =
+    All-cons IsLine (Heading (decimal n)) (header_lines x.0 ++ type_lines x.1) (none_in_number 10 n (omega arith) h)
+    (All-append IsLine (header_lines x.0) (type_lines x.1) (header_valid x.0 v.0.2)
+    (All-cons IsLine (MessageType x.1.mti) (map field_of x.1.fields) v.1.0 (fields_valid 1 x.1.fields v.1.1)))
+
+pub lines_valid : (size n : ℕ) (xs : List Sent) → n + length xs < 2 ^ 64 → All (IsSent size) xs → All IsLine (lines_of n xs)
+lines_valid size n [] h v = λ k d l. absurd (omega (arith, l))
+lines_valid size n (x ∷ xs) h v =
+    All-append IsLine (lines_of_message n x.0 x.1) (lines_of (n + 1) xs)
+    (message_valid size n x (omega (arith, h)) (All-head (IsSent size) x xs v))
+    (lines_valid size (n + 1) xs (omega (arith, h)) (All-tail (IsSent size) x xs v))
 
 -- each message has bytes
-some_bytes : (n : ℕ) (m : PlainMessage) → 1 ≤ length (message_text n m)
-some_bytes n m =
-    let e : length (message_text n m) ≡ 8 + length (decimal n ++ (codes "\nmti " ++ (m.mti ++ (codes "\n" ++ flat_map field_line m.fields)))) =
-    length-append (codes "message ") (decimal n ++ (codes "\nmti " ++ (m.mti ++ (codes "\n" ++ flat_map field_line m.fields)))) in omega (arith, e)
+some_bytes : (n : ℕ) (header : List ℕ) (m : PlainMessage) → 1 ≤ length (message_text n header m)
+some_bytes n header m =
+    let more = codes "\n" ++ (header_line header ++ (codes "mti " ++ (m.mti ++ (codes "\n" ++ flat_map field_line m.fields)))) in
+    let e : length (message_text n header m) ≡ 8 + length (decimal n ++ more) =
+    length-append (codes "message ") (decimal n ++ more) in omega (arith, e)
 
-pub few_messages : (n : ℕ) (ms : List PlainMessage) → length ms ≤ length (messages_text n ms)
+pub few_messages : (n : ℕ) (xs : List Sent) → length xs ≤ length (messages_text n xs)
 few_messages n [] = omega arith
-few_messages n (m ∷ ms) =
-    let e : length (messages_text n (m ∷ ms)) ≡ length (message_text n m) + length (messages_text (n + 1) ms) =
-    length-append (message_text n m) (messages_text (n + 1) ms) in
-    let one = some_bytes n m in
-    let more = few_messages (n + 1) ms in omega (arith, e, one, more)
+few_messages n (x ∷ xs) =
+    let e : length (messages_text n (x ∷ xs)) ≡ length (message_text n x.0 x.1) + length (messages_text (n + 1) xs) =
+    length-append (message_text n x.0 x.1) (messages_text (n + 1) xs) in
+    let one = some_bytes n x.0 x.1 in
+    let more = few_messages (n + 1) xs in omega (arith, e, one, more)
 
 -- ---- runs
 
@@ -196,143 +228,217 @@ last_more : (low : ℕ) (fs : Fields) (n : ℕ) (v : List ℕ) → last_from low
 last_more low [] n v = refl
 last_more low (f ∷ fs) n v = last_more f.0 fs n v
 
-abbrev open_at : List PlainMessage → List ℕ → Fields → Point
-open_at done mti fields = record { done = done; stage = Open (record { mti = mti; fields = fields }) }
+abbrev point_at : ℕ → List Sent → List ℕ → Stage → Point
+point_at size done header s = record { size = size; done = done; header = header; stage = s }
 
-run_fields : (done : List PlainMessage) (mti : List ℕ) (acc fs : Fields) → AreFields (last_of acc) fs
-    → run (open_at done mti acc) (map field_of fs) ≡ Some (open_at done mti (acc ++ fs))
-run_fields done mti acc [] a = ap (λ (fs : Fields). Some (open_at done mti fs)) (sym (append-nil acc))
-run_fields done mti acc (f ∷ fs) a =
+abbrev open_at : ℕ → List Sent → List ℕ → List ℕ → Fields → Point
+open_at size done header mti fields = point_at size done header (Open (record { mti = mti; fields = fields }))
+
+run_fields : (size : ℕ) (done : List Sent) (header mti : List ℕ) (acc fs : Fields) → AreFields (last_of acc) fs
+    → run (open_at size done header mti acc) (map field_of fs) ≡ Some (open_at size done header mti (acc ++ fs))
+run_fields size done header mti acc [] a = ap (λ (fs : Fields). Some (open_at size done header mti fs)) (sym (append-nil acc))
+run_fields size done header mti acc (f ∷ fs) a =
     let m : PlainMessage = record { mti = mti; fields = acc } in
-    one_step (field_of f) (map field_of fs) (open_at done mti acc) (open_at done mti (acc ++ f ∷ []))
-    (field_step (open_at done mti acc) m f.0 f.1 refl (may_follow m f.0 f.1 a.0 a.1))
-    ∙ run_fields done mti (acc ++ f ∷ []) fs (subst (λ (k : ℕ). AreFields k fs) (sym (last_more 1 acc f.0 f.1)) a.2)
-    ∙ ap (λ (l : Fields). Some (open_at done mti l)) (append_assoc acc (f ∷ []) fs)
+    one_step (field_of f) (map field_of fs) (open_at size done header mti acc) (open_at size done header mti (acc ++ f ∷ []))
+    (field_step (open_at size done header mti acc) m f.0 f.1 refl (may_follow m f.0 f.1 a.0 a.1))
+    ∙ run_fields size done header mti (acc ++ f ∷ []) fs (subst (λ (k : ℕ). AreFields k fs) (sym (last_more 1 acc f.0 f.1)) a.2)
+    ∙ ap (λ (l : Fields). Some (open_at size done header mti l)) (append_assoc acc (f ∷ []) fs)
 
-run_message : (p : Point) (m : PlainMessage) → (p.stage ≡ Headed → ⊥) → IsMessage m
-    → run p (lines_of_message (length (closed p).done + 1) m) ≡ Some (record { done = (closed p).done; stage = Open m })
-run_message p m h v =
+-- the type and the fields, after the heading and the header
+run_type : (size : ℕ) (done : List Sent) (header : List ℕ) (m : PlainMessage) → length header ≡ size → IsMessage m
+    → run (point_at size done header Headed) (type_lines m) ≡ Some (point_at size done header (Open m))
+run_type size done header m whole v =
+    let q = point_at size done header Headed in
+    one_step (MessageType m.mti) (map field_of m.fields) q (open_at size done header m.mti [])
+    (type_step q m.mti (record { mti = m.mti; fields = [] }) refl whole refl)
+    ∙ run_fields size done header m.mti [] m.fields v.1
+
+-- the header before them, if it has bytes
+run_header : (size : ℕ) (done : List Sent) (header : List ℕ) (m : PlainMessage) → IsHeader size header → IsMessage m
+    → run (point_at size done [] Headed) (header_lines header ++ type_lines m) ≡ Some (point_at size done header (Open m))
+run_header size done [] m h v = run_type size done [] m h.0 v
+run_header size done (b ∷ bs) m h v =
+    let q = point_at size done [] Headed in
+    let long : length (b ∷ bs) ≡ size = h.0 in
+    one_step (Header (flat_map hex (b ∷ bs))) (type_lines m) q (point_at size done (b ∷ bs) Headed)
+    (header_step q (flat_map hex (b ∷ bs)) (b ∷ bs) refl refl (header_again_read size (b ∷ bs) (omega (arith, long)) h))
+    ∙ run_type size done (b ∷ bs) m h.0 v
+
+abbrev opened_after : Point → Sent → Point
+opened_after p x = point_at p.size (closed p).done x.0 (Open x.1)
+
+run_message : (p : Point) (x : Sent) → (p.stage ≡ Headed → ⊥) → IsSent p.size x
+    → run p (lines_of_message (length (closed p).done + 1) x.0 x.1) ≡ Some (opened_after p x)
+run_message p x h v =
     let done = (closed p).done in
-    let q : Point = record { done = done; stage = Headed } in
-    one_step (Heading (decimal (length done + 1))) (MessageType m.mti ∷ map field_of m.fields) p q
-    (heading_step p (decimal (length done + 1)) h ∙ headed_is done (decimal (length done + 1)) (length done) refl refl)
-    ∙ one_step (MessageType m.mti) (map field_of m.fields) q (open_at done m.mti []) (type_step q m.mti (record { mti = m.mti; fields = [] }) refl refl)
-    ∙ run_fields done m.mti [] m.fields v.1
+    one_step (Heading (decimal (length done + 1))) (header_lines x.0 ++ type_lines x.1) p (point_at p.size done [] Headed)
+    (heading_step p (decimal (length done + 1)) h ∙ headed_is p.size done (decimal (length done + 1)) (length done) refl refl)
+    ∙ run_header p.size done x.0 x.1 v.0 v.1
 
 open_not_headed : (m : PlainMessage) → Open m ≡ Headed → ⊥
 open_not_headed m e = absurd cc
 
-pub run_all : (ms : List PlainMessage) (p : Point) → (p.stage ≡ Headed → ⊥) → All IsMessage ms
-    → (q : Point) × (run p (lines_of (length (closed p).done + 1) ms) ≡ Some q) × (q.stage ≡ Headed → ⊥) × ((closed q).done ≡ (closed p).done ++ ms)
+pub run_all : (xs : List Sent) (p : Point) → (p.stage ≡ Headed → ⊥) → All (IsSent p.size) xs
+    → (q : Point) × (run p (lines_of (length (closed p).done + 1) xs) ≡ Some q) × (q.stage ≡ Headed → ⊥) × ((closed q).done ≡ (closed p).done ++ xs)
 run_all [] p h v = (p, refl, h, sym (append-nil (closed p).done))
-run_all (m ∷ ms) p h v =
+run_all (x ∷ xs) p h v =
     let done = (closed p).done in
-    let q : Point = record { done = done; stage = Open m } in
-    let more = run_all ms q (open_not_headed m) (All-tail IsMessage m ms v) in
-    let number : length (done ++ m ∷ []) + 1 ≡ length done + 1 + 1 = ap (λ k. k + 1) (length-append done (m ∷ [])) in (
+    let q = opened_after p x in
+    let more = run_all xs q (open_not_headed x.1) (All-tail (IsSent p.size) x xs v) in
+    let number : length (done ++ x ∷ []) + 1 ≡ length done + 1 + 1 = ap (λ k. k + 1) (length-append done (x ∷ [])) in (
       more.0,
-      run_append (lines_of_message (length done + 1) m) (lines_of (length done + 1 + 1) ms) p
-          ∙ ap (λ (o : Option Point). option_and_then (λ r. run r (lines_of (length done + 1 + 1) ms)) o) (run_message p m h (All-head IsMessage m ms v))
-          ∙ ap (λ (k : ℕ). run q (lines_of k ms)) (sym number) ∙ more.1,
+      run_append (lines_of_message (length done + 1) x.0 x.1) (lines_of (length done + 1 + 1) xs) p
+          ∙ ap (λ (o : Option Point). option_and_then (λ r. run r (lines_of (length done + 1 + 1) xs)) o)
+          (run_message p x h (All-head (IsSent p.size) x xs v))
+          ∙ ap (λ (k : ℕ). run q (lines_of k xs)) (sym number) ∙ more.1,
       more.2,
-      more.3 ∙ append_assoc done (m ∷ []) ms,
+      more.3 ∙ append_assoc done (x ∷ []) xs,
     )
 
 -- ---- what was read is the text of what it made
 
-texts_append : (n : ℕ) (xs ys : List PlainMessage) → messages_text n (xs ++ ys) ≡ messages_text n xs ++ messages_text (length xs + n) ys
+texts_append : (n : ℕ) (xs ys : List Sent) → messages_text n (xs ++ ys) ≡ messages_text n xs ++ messages_text (length xs + n) ys
 texts_append n [] ys = ap (λ k. messages_text k ys) (let e : n ≡ 0 + n = omega arith in e)
 texts_append n (x ∷ xs) ys =
-    ap (λ (t : List ℕ). message_text n x ++ t) (texts_append (n + 1) xs ys)
-    ∙ ap (λ k. message_text n x ++ (messages_text (n + 1) xs ++ messages_text k ys)) (let e : length xs + (n + 1) ≡ length (x ∷ xs) + n = omega arith in e)
-    ∙ sym (append_assoc (message_text n x) (messages_text (n + 1) xs) (messages_text (length (x ∷ xs) + n) ys))
+    let text = message_text n x.0 x.1 in
+    ap (λ (t : List ℕ). text ++ t) (texts_append (n + 1) xs ys)
+    ∙ ap (λ k. text ++ (messages_text (n + 1) xs ++ messages_text k ys)) (let e : length xs + (n + 1) ≡ length (x ∷ xs) + n = omega arith in e)
+    ∙ sym (append_assoc text (messages_text (n + 1) xs) (messages_text (length (x ∷ xs) + n) ys))
 
-closed_text_at : (done : List PlainMessage) (s : Stage) → text_of (closed_at done s) ≡ text_of (record { done = done; stage = s })
-closed_text_at done Between = refl
-closed_text_at done Headed = refl
-closed_text_at done (Open m) =
-    append-nil (messages_text 1 (done ++ m ∷ [])) ∙ texts_append 1 done (m ∷ [])
-    ∙ ap (λ (t : List ℕ). messages_text 1 done ++ t) (append-nil (message_text (length done + 1) m))
+closed_text_at : (size : ℕ) (done : List Sent) (header : List ℕ) (s : Stage)
+    → text_of (closed_at size done header s) ≡ text_of (point_at size done header s)
+closed_text_at size done header Between = refl
+closed_text_at size done header Headed = refl
+closed_text_at size done header (Open m) =
+    append-nil (messages_text 1 (done ++ (header, m) ∷ [])) ∙ texts_append 1 done ((header, m) ∷ [])
+    ∙ ap (λ (t : List ℕ). messages_text 1 done ++ t) (append-nil (message_text (length done + 1) header m))
 
 pub closed_text : (p : Point) → text_of (closed p) ≡ text_of p
-closed_text p = closed_text_at p.done p.stage
+closed_text p = closed_text_at p.size p.done p.header p.stage
 
-abbrev headed_point : List PlainMessage → Point
-headed_point done = record { done = done; stage = Headed }
-
-abbrev between_point : List PlainMessage → Point
-between_point done = record { done = done; stage = Between }
-
-head_line : (w : List ℕ) (n : ℕ) → w ≡ decimal n → stage_text n Headed ≡ ended_line (Heading w)
+head_line : (w : List ℕ) (n : ℕ) → w ≡ decimal n → opening_of n [] ≡ ended_line (Heading w)
 head_line w n e = ap (λ (t : List ℕ). codes "message " ++ (t ++ codes "\n")) (sym e) ∙ sym (append_assoc (codes "message ") w (codes "\n"))
 
-headed_by : (done : List PlainMessage) (w : List ℕ) (b : Bool) (q : Point) → bytes_eq w (decimal (length done + 1)) ≡ b
-    → cond b (Some (headed_point done)) None ≡ Some q → text_of q ≡ text_of (between_point done) ++ ended_line (Heading w)
-headed_by done w false q h e = absurd cc
-headed_by done w true q h e =
-    let same : headed_point done ≡ q = point_is (headed_point done) q e in
-    ap text_of (sym same)
+headed_by : (size : ℕ) (done : List Sent) (w : List ℕ) (b : Bool) (q : Point) → bytes_eq w (decimal (length done + 1)) ≡ b
+    → cond b (Some (point_at size done [] Headed)) None ≡ Some q → text_of q ≡ messages_text 1 done ++ ended_line (Heading w)
+headed_by size done w false q h e = absurd cc
+headed_by size done w true q h e =
+    ap text_of (sym (point_is (point_at size done [] Headed) q e))
     ∙ ap (λ (t : List ℕ). messages_text 1 done ++ t) (head_line w (length done + 1) ((bytes_eq-Decides w (decimal (length done + 1))).0 h))
-    ∙ ap (λ (t : List ℕ). t ++ ended_line (Heading w)) (sym (append-nil (messages_text 1 done)))
 
-headed_text : (done : List PlainMessage) (w : List ℕ) (q : Point) → headed done w ≡ Some q → text_of q ≡ text_of (between_point done) ++ ended_line (Heading w)
-headed_text done w q e = headed_by done w (bytes_eq w (decimal (length done + 1))) q refl e
+headed_text : (size : ℕ) (done : List Sent) (w : List ℕ) (q : Point) → headed size done w ≡ Some q
+    → text_of q ≡ messages_text 1 done ++ ended_line (Heading w)
+headed_text size done w q e = headed_by size done w (bytes_eq w (decimal (length done + 1))) q refl e
 
-typed_text : (n : ℕ) (d : List ℕ) → message_text n (record { mti = d; fields = [] }) ≡ stage_text n Headed ++ ended_line (MessageType d)
-typed_text n d =
-    sym (append_assoc (codes "message ") (decimal n ++ codes "\n") (ended_line (MessageType d))
-    ∙ ap (λ (t : List ℕ). codes "message " ++ t) (append_assoc (decimal n) (codes "\n") (ended_line (MessageType d)))
-    ∙ ap (λ (t : List ℕ). codes "message " ++ (decimal n ++ (codes "\n" ++ t))) (append_assoc (codes "mti ") d (codes "\n")))
+more_text : (size : ℕ) (done : List Sent) (old new : List ℕ) (s t : Stage) (line : List ℕ)
+    → stage_text (length done + 1) new t ≡ stage_text (length done + 1) old s ++ line
+    → text_of (point_at size done new t) ≡ text_of (point_at size done old s) ++ line
+more_text size done old new s t line e =
+    ap (λ (x : List ℕ). messages_text 1 done ++ x) e ∙ sym (append_assoc (messages_text 1 done) (stage_text (length done + 1) old s) line)
+
+-- a header after a heading
+spelled_line : (header digits : List ℕ) → 0 < length header → flat_map hex header ≡ digits → header_line header ≡ ended_line (Header digits)
+spelled_line [] digits some e = absurd (omega (arith, some))
+spelled_line (b ∷ bs) digits some e = sym (header_ended b bs) ∙ ap (λ (t : List ℕ). ended_line (Header t)) e
+
+opening_more : (n : ℕ) (header line : List ℕ) → header_line header ≡ line → opening_of n header ≡ opening_of n [] ++ line
+opening_more n header line e =
+    ap (λ (t : List ℕ). codes "message " ++ (decimal n ++ (codes "\n" ++ t))) e
+    ∙ sym (append_assoc (codes "message ") (decimal n ++ codes "\n") line
+    ∙ ap (λ (t : List ℕ). codes "message " ++ t) (append_assoc (decimal n) (codes "\n") line))
+
+named_by : (size : ℕ) (done : List Sent) (old digits : List ℕ) (o : Option (List ℕ)) (q : Point)
+    → ((header : List ℕ) → o ≡ Some header → (0 < length header) × (flat_map hex header ≡ digits)) → named size done old o ≡ Some q
+    → text_of q ≡ text_of (point_at size done old Headed) ++ ended_line (Header digits)
+named_by size done (b ∷ bs) digits o q h e = absurd cc
+named_by size done [] digits None q h e = absurd cc
+named_by size done [] digits (Some header) q h e =
+    let f = h header refl in
+    ap text_of (sym (point_is (point_at size done header Headed) q e))
+    ∙ more_text size done [] header Headed Headed (ended_line (Header digits))
+    (opening_more (length done + 1) header (ended_line (Header digits)) (spelled_line header digits f.0 f.1))
+
+named_text : (size : ℕ) (done : List Sent) (old digits : List ℕ) (q : Point) → named size done old (header_from size digits) ≡ Some q
+    → text_of q ≡ text_of (point_at size done old Headed) ++ ended_line (Header digits)
+named_text size done old digits q e =
+    named_by size done old digits (header_from size digits) q (λ header is.
+    let f = found size digits header is in
+    let long : length header ≡ size = f.1.0 in
+    let some : 0 < size = f.0 in (omega (arith, long, some), f.2)) e
+
+-- a type after them
+typed_text : (n : ℕ) (header d : List ℕ) → message_text n header (record { mti = d; fields = [] }) ≡ opening_of n header ++ ended_line (MessageType d)
+typed_text n header d =
+    let line = ended_line (MessageType d) in
+    sym (append_assoc (codes "message ") (decimal n ++ (codes "\n" ++ header_line header)) line
+    ∙ ap (λ (t : List ℕ). codes "message " ++ t) (append_assoc (decimal n) (codes "\n" ++ header_line header) line)
+    ∙ ap (λ (t : List ℕ). codes "message " ++ (decimal n ++ t)) (append_assoc (codes "\n") (header_line header) line)
+    ∙ ap (λ (t : List ℕ). codes "message " ++ (decimal n ++ (codes "\n" ++ (header_line header ++ t)))) (append_assoc (codes "mti ") d (codes "\n")))
+
+typed_by : (size : ℕ) (done : List Sent) (header d : List ℕ) (b : Bool) (q : Point) → cond b (Some (open_at size done header d [])) None ≡ Some q
+    → text_of q ≡ text_of (point_at size done header Headed) ++ ended_line (MessageType d)
+typed_by size done header d false q e = absurd cc
+typed_by size done header d true q e =
+    ap text_of (sym (point_is (open_at size done header d []) q e))
+    ∙ more_text size done header header Headed (Open (record { mti = d; fields = [] })) (ended_line (MessageType d)) (typed_text (length done + 1) header d)
 
 flat_push : (fs : Fields) (f : ℕ × List ℕ) → flat_map field_line (fs ++ f ∷ []) ≡ flat_map field_line fs ++ field_line f
 flat_push [] f = append-nil (field_line f)
 flat_push (g ∷ fs) f = ap (λ (t : List ℕ). field_line g ++ t) (flat_push fs f) ∙ sym (append_assoc (field_line g) (flat_map field_line fs) (field_line f))
 
-field_added : (k : ℕ) (m : PlainMessage) (n : ℕ) (v : List ℕ) → message_text k (with_last m n v) ≡ message_text k m ++ ended_line (Field n v)
-field_added k m n v =
+field_added : (k : ℕ) (header : List ℕ) (m : PlainMessage) (n : ℕ) (v : List ℕ)
+    → message_text k header (with_last m n v) ≡ message_text k header m ++ ended_line (Field n v)
+field_added k header m n v =
     let fs = flat_map field_line m.fields in
     let line = ended_line (Field n v) in
-    ap (λ (t : List ℕ). codes "message " ++ (decimal k ++ (codes "\nmti " ++ (m.mti ++ (codes "\n" ++ t)))))
+    let rest = codes "mti " ++ (m.mti ++ (codes "\n" ++ fs)) in
+    ap (λ (t : List ℕ). opened_text (codes "mti " ++ (m.mti ++ (codes "\n" ++ t))))
     (flat_push m.fields (n, v) ∙ ap (λ (t : List ℕ). fs ++ t) (sym (field_text (n, v))))
-    ∙ ap (λ (t : List ℕ). codes "message " ++ (decimal k ++ (codes "\nmti " ++ (m.mti ++ t)))) (sym (append_assoc (codes "\n") fs line))
-    ∙ ap (λ (t : List ℕ). codes "message " ++ (decimal k ++ (codes "\nmti " ++ t))) (sym (append_assoc m.mti (codes "\n" ++ fs) line))
-    ∙ ap (λ (t : List ℕ). codes "message " ++ (decimal k ++ t)) (sym (append_assoc (codes "\nmti ") (m.mti ++ (codes "\n" ++ fs)) line))
-    ∙ ap (λ (t : List ℕ). codes "message " ++ t) (sym (append_assoc (decimal k) (codes "\nmti " ++ (m.mti ++ (codes "\n" ++ fs))) line))
-    ∙ sym (append_assoc (codes "message ") (decimal k ++ (codes "\nmti " ++ (m.mti ++ (codes "\n" ++ fs)))) line)
+    ∙ ap (λ (t : List ℕ). opened_text (codes "mti " ++ (m.mti ++ t))) (sym (append_assoc (codes "\n") fs line))
+    ∙ ap (λ (t : List ℕ). opened_text (codes "mti " ++ t)) (sym (append_assoc m.mti (codes "\n" ++ fs) line))
+    ∙ ap opened_text (sym (append_assoc (codes "mti ") (m.mti ++ (codes "\n" ++ fs)) line))
+    ∙ ap (λ (t : List ℕ). codes "message " ++ (decimal k ++ (codes "\n" ++ t))) (sym (append_assoc (header_line header) rest line))
+    ∙ ap (λ (t : List ℕ). codes "message " ++ (decimal k ++ t)) (sym (append_assoc (codes "\n") (header_line header ++ rest) line))
+    ∙ ap (λ (t : List ℕ). codes "message " ++ t) (sym (append_assoc (decimal k) (codes "\n" ++ (header_line header ++ rest)) line))
+    ∙ sym (append_assoc (codes "message ") (decimal k ++ (codes "\n" ++ (header_line header ++ rest))) line)
+  where
+    opened_text : List ℕ → List ℕ
+    opened_text t = codes "message " ++ (decimal k ++ (codes "\n" ++ (header_line header ++ t)))
 
-more_text : (done : List PlainMessage) (s t : Stage) (line : List ℕ) → stage_text (length done + 1) t ≡ stage_text (length done + 1) s ++ line
-    → text_of (record { done = done; stage = t }) ≡ text_of (record { done = done; stage = s }) ++ line
-more_text done s t line e =
-    ap (λ (x : List ℕ). messages_text 1 done ++ x) e ∙ sym (append_assoc (messages_text 1 done) (stage_text (length done + 1) s) line)
+field_by : (size : ℕ) (done : List Sent) (header : List ℕ) (m : PlainMessage) (n : ℕ) (v : List ℕ) (b : Bool) (q : Point)
+    → cond b (Some (point_at size done header (Open (with_last m n v)))) None ≡ Some q
+    → text_of q ≡ text_of (point_at size done header (Open m)) ++ ended_line (Field n v)
+field_by size done header m n v false q e = absurd cc
+field_by size done header m n v true q e =
+    ap text_of (sym (point_is (point_at size done header (Open (with_last m n v))) q e))
+    ∙ more_text size done header header (Open m) (Open (with_last m n v)) (ended_line (Field n v)) (field_added (length done + 1) header m n v)
 
-field_by : (done : List PlainMessage) (m : PlainMessage) (n : ℕ) (v : List ℕ) (b : Bool) (q : Point)
-    → cond b (Some (record { done = done; stage = Open (with_last m n v) })) None ≡ Some q
-    → text_of q ≡ text_of (record { done = done; stage = Open m }) ++ ended_line (Field n v)
-field_by done m n v false q e = absurd cc
-field_by done m n v true q e =
-    ap text_of (sym (point_is (record { done = done; stage = Open (with_last m n v) }) q e))
-    ∙ more_text done (Open m) (Open (with_last m n v)) (ended_line (Field n v)) (field_added (length done + 1) m n v)
+between_text : (size : ℕ) (done : List Sent) (header line : List ℕ) → messages_text 1 done ++ line ≡ text_of (point_at size done header Between) ++ line
+between_text size done header line = ap (λ (t : List ℕ). t ++ line) (sym (append-nil (messages_text 1 done)))
 
-step_text_at : (done : List PlainMessage) (s : Stage) (l : PlainLine) (q : Point) → step_at done s l ≡ Some q
-    → text_of q ≡ text_of (record { done = done; stage = s }) ++ ended_line l
+step_text_at : (size : ℕ) (done : List Sent) (header : List ℕ) (s : Stage) (l : PlainLine) (q : Point) → step_at size done header s l ≡ Some q
+    → text_of q ≡ text_of (point_at size done header s) ++ ended_line l
 unfolding step_at
-step_text_at done Between (Heading w) q e = headed_text done w q e
-step_text_at done Between (MessageType d) q e = absurd cc
-step_text_at done Between (Field n v) q e = absurd cc
-step_text_at done Headed (Heading w) q e = absurd cc
-step_text_at done Headed (MessageType d) q e =
-    ap text_of (sym (point_is (open_at done d []) q e))
-    ∙ more_text done Headed (Open (record { mti = d; fields = [] })) (ended_line (MessageType d)) (typed_text (length done + 1) d)
-step_text_at done Headed (Field n v) q e = absurd cc
-step_text_at done (Open m) (Heading w) q e =
-    headed_text (done ++ m ∷ []) w q e ∙ ap (λ (t : List ℕ). t ++ ended_line (Heading w)) (closed_text_at done (Open m))
-step_text_at done (Open m) (MessageType d) q e = absurd cc
-step_text_at done (Open m) (Field n v) q e = field_by done m n v (follows m n v) q e
+step_text_at size done header Between (Heading w) q e = headed_text size done w q e ∙ between_text size done header (ended_line (Heading w))
+step_text_at size done header Between (Header d) q e = absurd cc
+step_text_at size done header Between (MessageType d) q e = absurd cc
+step_text_at size done header Between (Field n v) q e = absurd cc
+step_text_at size done header Headed (Heading w) q e = absurd cc
+step_text_at size done header Headed (Header d) q e = named_text size done header d q e
+step_text_at size done header Headed (MessageType d) q e = typed_by size done header d (eqb (length header) size) q e
+step_text_at size done header Headed (Field n v) q e = absurd cc
+step_text_at size done header (Open m) (Heading w) q e =
+    headed_text size (done ++ (header, m) ∷ []) w q e
+    ∙ between_text size (done ++ (header, m) ∷ []) header (ended_line (Heading w))
+    ∙ ap (λ (t : List ℕ). t ++ ended_line (Heading w)) (closed_text_at size done header (Open m))
+step_text_at size done header (Open m) (Header d) q e = absurd cc
+step_text_at size done header (Open m) (MessageType d) q e = absurd cc
+step_text_at size done header (Open m) (Field n v) q e = field_by size done header m n v (follows m n v) q e
 
 pub step_text : (p : Point) (l : PlainLine) (q : Point) → step p l ≡ Some q → text_of q ≡ text_of p ++ ended_line l
-step_text p l q e = step_text_at p.done p.stage l q e
+step_text p l q e = step_text_at p.size p.done p.header p.stage l q e
 
-run_some : (us : List PlainLine) (u : PlainLine) (p q : Point) (o : Option Point) → step p u ≡ o → option_and_then (λ r. run r us) o ≡ Some q
+pub run_some : (us : List PlainLine) (u : PlainLine) (p q : Point) (o : Option Point) → step p u ≡ o → option_and_then (λ r. run r us) o ≡ Some q
     → (r : Point) × (step p u ≡ Some r) × (run r us ≡ Some q)
 run_some us u p q None h e = absurd cc
 run_some us u p q (Some r) h e = (r, h, e)
@@ -349,19 +455,20 @@ all_after : (us vs : List PlainLine) → All IsLine (us ++ vs) → All IsLine vs
 all_after [] vs a = a
 all_after (u ∷ us) vs a = all_after us vs (All-tail IsLine u (us ++ vs) a)
 
-pub none_by : (text rest : List ℕ) (us : List PlainLine) (p : Point) → All IsLine us → run start us ≡ Some p → text ≡ text_of_lines us ++ rest
-    → length text < 2 ^ 63
+pub none_by : (size : ℕ) (text rest : List ℕ) (us : List PlainLine) (p : Point) → All IsLine us → run (start size) us ≡ Some p
+    → text ≡ text_of_lines us ++ rest → length text < 2 ^ 63
     → ((vs : List PlainLine) → All IsLine vs → text_of_lines vs ≡ rest → (q : Point) → run p vs ≡ Some q → (q.stage ≡ Headed → ⊥) → ⊥)
-    → IsNoText text
-none_by text rest us p are reached is small none ms valid e =
+    → IsNoText size text
+none_by size text rest us p are reached is small none ms valid e =
     let few : length ms ≤ length (messages_text 1 ms) = few_messages 1 ms in
     let long : length text ≡ length (messages_text 1 ms) = ap length e in
     let lines = lines_of 1 ms in
-    let all : All IsLine lines = lines_valid 1 ms (omega (arith, few, long, small)) valid in
+    let all : All IsLine lines = lines_valid size 1 ms (omega (arith, few, long, small)) valid in
     let sp = split us lines rest are all (sym (texts_are 1 ms) ∙ sym e ∙ is) in
-    let r = run_all ms start (λ k. absurd (between_not_headed k)) valid in
+    let r = run_all ms (start size) (λ k. absurd (between_not_headed k)) valid in
     let on : run p sp.0 ≡ Some r.0 =
-    sym (ap (λ (o : Option Point). option_and_then (λ s. run s sp.0) o) reached) ∙ sym (run_append us sp.0 start) ∙ ap (run start) (sym sp.1) ∙ r.1 in
+    sym (ap (λ (o : Option Point). option_and_then (λ s. run s sp.0) o) reached) ∙ sym (run_append us sp.0 (start size))
+    ∙ ap (run (start size)) (sym sp.1) ∙ r.1 in
     none sp.0 (all_after us sp.0 (subst (All IsLine) sp.1 all)) sp.2 r.0 on r.2
   where
     between_not_headed : Between ≡ Headed → ⊥
@@ -371,27 +478,27 @@ none_is_some : (q : Point) (o : Option Point) → o ≡ None → o ≡ Some q �
 none_is_some q o a b = absurd (let e : None ≡ Some q = sym a ∙ b in cc)
 
 -- at a line that is not allowed there
-pub none_there : (text bytes after : List ℕ) (us : List PlainLine) (p : Point) → All IsLine us → run start us ≡ Some p
+pub none_there : (size : ℕ) (text bytes after : List ℕ) (us : List PlainLine) (p : Point) → All IsLine us → run (start size) us ≡ Some p
     → text ≡ text_of_lines us ++ (bytes ++ 10 ∷ after) → length text < 2 ^ 63 → has_byte 10 bytes ≡ false
-    → ((l : PlainLine) → IsLine l → line_bytes l ≡ bytes → step p l ≡ None) → IsNoText text
-none_there text bytes after us p are reached is small clean none =
-    none_by text (bytes ++ 10 ∷ after) us p are reached is small (λ vs a e q h k.
+    → ((l : PlainLine) → IsLine l → line_bytes l ≡ bytes → step p l ≡ None) → IsNoText size text
+none_there size text bytes after us p are reached is small clean none =
+    none_by size text (bytes ++ 10 ∷ after) us p are reached is small (λ vs a e q h k.
     let n = next_line vs bytes after a clean e in
     none_is_some q (run p (n.0 ∷ n.1))
     (ap (λ (o : Option Point). option_and_then (λ s. run s n.1) o) (none n.0 n.3 n.4))
     (ap (run p) (sym n.2) ∙ h))
 
 -- at a last line without a line feed
-pub none_unended : (text rest : List ℕ) (us : List PlainLine) (p : Point) → All IsLine us → run start us ≡ Some p
-    → text ≡ text_of_lines us ++ rest → length text < 2 ^ 63 → has_byte 10 rest ≡ false → (rest ≡ [] → ⊥) → IsNoText text
-none_unended text rest us p are reached is small clean some =
-    none_by text rest us p are reached is small (λ vs a e q h k. no_end vs rest clean some e)
+pub none_unended : (size : ℕ) (text rest : List ℕ) (us : List PlainLine) (p : Point) → All IsLine us → run (start size) us ≡ Some p
+    → text ≡ text_of_lines us ++ rest → length text < 2 ^ 63 → has_byte 10 rest ≡ false → (rest ≡ [] → ⊥) → IsNoText size text
+none_unended size text rest us p are reached is small clean some =
+    none_by size text rest us p are reached is small (λ vs a e q h k. no_end vs rest clean some e)
 
 -- at the end, after a heading
-pub none_headed : (text rest : List ℕ) (us : List PlainLine) (p : Point) → All IsLine us → run start us ≡ Some p
-    → text ≡ text_of_lines us ++ rest → length text < 2 ^ 63 → rest ≡ [] → p.stage ≡ Headed → IsNoText text
-none_headed text rest us p are reached is small nothing_ headed_ =
-    none_by text rest us p are reached is small (λ vs a e q h k.
+pub none_headed : (size : ℕ) (text rest : List ℕ) (us : List PlainLine) (p : Point) → All IsLine us → run (start size) us ≡ Some p
+    → text ≡ text_of_lines us ++ rest → length text < 2 ^ 63 → rest ≡ [] → p.stage ≡ Headed → IsNoText size text
+none_headed size text rest us p are reached is small nothing_ headed_ =
+    none_by size text rest us p are reached is small (λ vs a e q h k.
     let all : vs ≡ [] = no_more vs (e ∙ nothing_) in
     let same : p ≡ q = point_is p q (ap (run p) (sym all) ∙ h) in
     k (ap (λ (r : Point). r.stage) (sym same) ∙ headed_))

@@ -12,8 +12,8 @@ IsReadToSpent reads (Io e) = IsSpentAt reads e
 IsReadToSpent reads _ = ⊤
 
 -- why a text of these bytes is refused, and what is written then: after a failed read nothing
-abbrev pub IsEncodeError : List ℕ → Option (List ℕ) → Option (List ℕ) → EncodeError → Type 0
-IsEncodeError bytes written written_now (Text e) = IsRefusal bytes e.line written written_now
-IsEncodeError bytes written written_now (Io (io.Read e)) = written_now ≡ written
-IsEncodeError bytes written written_now (Io io.TooManyReads) = written_now ≡ written
-IsEncodeError bytes written written_now (Io _) = ⊤
+abbrev pub IsEncodeError : ℕ → List ℕ → Option (List ℕ) → Option (List ℕ) → EncodeError → Type 0
+IsEncodeError size bytes written written_now (Text e) = IsRefusal size bytes e.line written written_now
+IsEncodeError size bytes written written_now (Io (io.Read e)) = written_now ≡ written
+IsEncodeError size bytes written written_now (Io io.TooManyReads) = written_now ≡ written
+IsEncodeError size bytes written written_now (Io _) = ⊤

@@ -1,5 +1,6 @@
 pub mod Texts
 pub mod Lines
+pub mod Headers
 pub mod Reading
 pub mod Frames
 pub mod Refusals

@@ -1,5 +1,5 @@
 -- The lines of a text: what a line says, and the bytes that say it.
-use Rattle.std.specs.Prelude.{◌≡◌, ◌<◌, ◌==◌, ℕ, Bool, true, false, List, ◌∷◌, ◌++◌, length, map, Option, Some, codes, nat_le}
+use Rattle.std.specs.Prelude.{◌≡◌, ◌<◌, ◌==◌, ℕ, Bool, true, false, List, [], ◌∷◌, ◌++◌, length, map, Option, Some, codes, nat_le}
 use Rattle.std.specs.Fmt.{decimal}
 use Rattle.std.specs.List.{flat_map, list_all, list_any}
 use Rattle.std.specs.Borrow.{Bor}
@@ -15,9 +15,10 @@ use Rattle.cli_encode.specs.declared.line.Line.TheVariants as line
 use Rattle.cli_encode.specs.declared.line.Value.{Value}
 use Rattle.cli_encode.specs.declared.line.Value.TheVariants as value
 
--- what a line says: `message W`, `mti DDDD`, or a field's number and its value
+-- what a line says: `message W`, `header W`, `mti DDDD`, or a field's number and its value
 pub data PlainLine : Type 0 where
   Heading : (word : List ℕ) → PlainLine
+  Header : (digits : List ℕ) → PlainLine
   MessageType : (digits : List ℕ) → PlainLine
   Field : (number : ℕ) → (value : List ℕ) → PlainLine
 
@@ -32,12 +33,14 @@ IsOnLine form value = has_byte 10 value ≡ false
 -- words and values without a line feed, a type of four digits, and numbers below 256
 abbrev pub IsLine : PlainLine → Type 0
 IsLine (Heading word) = has_byte 10 word ≡ false
+IsLine (Header digits) = has_byte 10 digits ≡ false
 IsLine (MessageType digits) = IsMti digits
 IsLine (Field n value) = (n < 256) × IsOnLine (form_of n) value
 
 -- the bytes of a line without its line feed
 abbrev pub line_bytes : PlainLine → List ℕ
 line_bytes (Heading word) = codes "message " ++ word
+line_bytes (Header digits) = codes "header " ++ digits
 line_bytes (MessageType digits) = codes "mti " ++ digits
 line_bytes (Field n value) = decimal n ++ (codes " " ++ shown (form_of n) value)
 
@@ -50,9 +53,14 @@ text_of_lines ls = flat_map ended_line ls
 abbrev pub field_of : ℕ × List ℕ → PlainLine
 field_of f = Field f.0 f.1
 
--- the lines of a message, which has this number
-abbrev pub lines_of_message : ℕ → PlainMessage → List PlainLine
-lines_of_message n m = Heading (decimal n) ∷ MessageType m.mti ∷ map field_of m.fields
+-- the line of a header; one without bytes has none
+abbrev pub header_lines : List ℕ → List PlainLine
+header_lines [] = []
+header_lines (byte ∷ more) = Header (flat_map hex (byte ∷ more)) ∷ []
+
+-- the lines of a message with its header, which has this number
+abbrev pub lines_of_message : ℕ → List ℕ → PlainMessage → List PlainLine
+lines_of_message n header m = Heading (decimal n) ∷ (header_lines header ++ MessageType m.mti ∷ map field_of m.fields)
 
 -- what a line that was read says, without where it lies in memory
 
@@ -62,6 +70,7 @@ value_of (value.Octets octets) = octets
 
 abbrev pub plain_line : Line → PlainLine
 plain_line (line.Heading word) = Heading word.now
+plain_line (line.Header digits) = Header digits.now
 plain_line (line.MessageType mti) = MessageType mti
 plain_line (line.Field n v) = Field n (value_of v)
 

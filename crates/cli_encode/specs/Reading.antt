@@ -1,24 +1,29 @@
 -- How a text is read, line by line, for the contracts of the steps.
 use Rattle.std.specs.Prelude.{◌≡◌, ◌≢◌, ◌⊎◌, ℕ, ◌+◌, ◌&&◌, nat_lt, Bool, true, false, List, [], ◌∷◌, ◌++◌, length, Option, Some, None, option_and_then, ◌==◌}
-use Rattle.std.specs.Prelude.{if◌then◌else◌, codes}
+use Rattle.std.specs.Prelude.{if◌then◌else◌}
 use Rattle.std.specs.Fmt.{decimal}
 use Rattle.std.specs.List.{All, count_by}
 use Rattle.std.specs.Option.{is_none}
 use Rattle.std.specs.Str.{bytes_eq}
 use Rattle.iso_msg.specs.Values.{refusal}
-use Rattle.iso_msg.specs.Messages.{Fields, PlainMessage, IsMessage}
+use Rattle.iso_msg.specs.Messages.{Fields, PlainMessage}
 use Rattle.cli_decode.specs.Decoded.{message_text}
+use Rattle.cli_decode.specs.Printing.{opening_of}
 use Rattle.cli_encode.specs.declared.encoder.Encoder.{Encoder}
 use Rattle.cli_encode.specs.declared.encoder.Stage.{Stage}
 use Rattle.cli_encode.specs.declared.encoder.Stage.TheVariants.{Between, Headed, Open}
 use Rattle.cli_encode.specs.declared.error.TextError.{TextError}
-use Rattle.cli_encode.specs.Lines.{PlainLine, Heading, MessageType, Field, IsLine, line_bytes, text_of_lines}
+use Rattle.cli_encode.specs.Headers.{header_from}
+use Rattle.cli_encode.specs.Lines.{PlainLine, Heading, Header, MessageType, Field, IsLine, line_bytes, text_of_lines}
 use Rattle.cli_encode.specs.Refusals.{IsNoText, IsStuckAfter}
-use Rattle.cli_encode.specs.Texts.{AreFramesOf, messages_text}
+use Rattle.cli_encode.specs.Texts.{Sent, AreFramesOf, IsHeader, IsSent, messages_text}
 
--- the messages that were read to their end, and what was begun
+-- how many bytes each header has, the messages that were read to their end, the header of the message after them, as far as it was
+-- read, and what was begun of it
 pub record Point : Type 0 where
-  pub done : List PlainMessage
+  pub size : ℕ
+  pub done : List Sent
+  pub header : List ℕ
   pub stage : Stage
 
 -- the number of the last field, or `low` where there is none
@@ -44,55 +49,76 @@ AddsField m n value m' true = (follows m n value ≡ true) × (m' ≡ with_last 
 AddsField m n value m' false = (follows m n value ≡ false) × (m' ≡ m)
 
 -- a message that was begun is ended
-abbrev pub closed_at : List PlainMessage → Stage → Point
-closed_at done (Open m) = record { done = done ++ m ∷ []; stage = Between }
-closed_at done stage = record { done = done; stage = stage }
+abbrev pub closed_at : ℕ → List Sent → List ℕ → Stage → Point
+closed_at size done header (Open m) = record { size = size; done = done ++ (header, m) ∷ []; header = header; stage = Between }
+closed_at size done header stage = record { size = size; done = done; header = header; stage = stage }
 
 abbrev pub closed : Point → Point
-closed p = closed_at p.done p.stage
+closed p = closed_at p.size p.done p.header p.stage
 
 -- a heading with the next message's number
-abbrev pub headed : List PlainMessage → List ℕ → Option Point
-headed done word =
-    if bytes_eq word (decimal (length done + 1)) then Some (record { done = done; stage = Headed }) else None
+abbrev pub headed : ℕ → List Sent → List ℕ → Option Point
+headed size done word =
+    if bytes_eq word (decimal (length done + 1)) then Some (record { size = size; done = done; header = []; stage = Headed }) else None
+
+-- a header after a heading, which has none yet
+abbrev pub named : ℕ → List Sent → List ℕ → Option (List ℕ) → Option Point
+named size done [] (Some header) = Some (record { size = size; done = done; header = header; stage = Headed })
+named size done [] None = None
+named size done (byte ∷ more) found = None
+
+-- a type after a heading and the header
+abbrev pub typed : ℕ → List Sent → List ℕ → List ℕ → Option Point
+typed size done header digits =
+    if length header == size
+    then Some (record { size = size; done = done; header = header; stage = Open (record { mti = digits; fields = [] }) })
+    else None
 
 -- what a line makes of it, if the line is allowed there
-unfoldable pub step_at : List PlainMessage → Stage → PlainLine → Option Point
-step_at done Between (Heading word) = headed done word
-step_at done (Open m) (Heading word) = headed (done ++ m ∷ []) word
-step_at done Headed (MessageType digits) = Some (record { done = done; stage = Open (record { mti = digits; fields = [] }) })
-step_at done (Open m) (Field n value) =
-    if follows m n value then Some (record { done = done; stage = Open (with_last m n value) }) else None
-step_at done stage l = None
+unfoldable pub step_at : ℕ → List Sent → List ℕ → Stage → PlainLine → Option Point
+step_at size done header Between (Heading word) = headed size done word
+step_at size done header (Open m) (Heading word) = headed size (done ++ (header, m) ∷ []) word
+step_at size done header Headed (Header digits) = named size done header (header_from size digits)
+step_at size done header Headed (MessageType digits) = typed size done header digits
+step_at size done header (Open m) (Field n value) =
+    if follows m n value then Some (record { size = size; done = done; header = header; stage = Open (with_last m n value) }) else None
+step_at size done header stage l = None
 
 abbrev pub step : Point → PlainLine → Option Point
-step p l = step_at p.done p.stage l
+step p l = step_at p.size p.done p.header p.stage l
 
 -- the text of what was read
-abbrev pub stage_text : ℕ → Stage → List ℕ
-stage_text n Between = []
-stage_text n Headed = codes "message " ++ (decimal n ++ codes "\n")
-stage_text n (Open m) = message_text n m
+abbrev pub stage_text : ℕ → List ℕ → Stage → List ℕ
+stage_text n header Between = []
+stage_text n header Headed = opening_of n header
+stage_text n header (Open m) = message_text n header m
 
 abbrev pub text_of : Point → List ℕ
-text_of p = messages_text 1 p.done ++ stage_text (length p.done + 1) p.stage
+text_of p = messages_text 1 p.done ++ stage_text (length p.done + 1) p.header p.stage
 
--- a message that was begun is valid so far
-abbrev pub IsMessageIn : Stage → Type 0
-IsMessageIn (Open m) = IsMessage m
-IsMessageIn _ = Unit {0}
+-- a message that was begun is valid so far, and so is its header
+abbrev pub IsMessageIn : ℕ → List ℕ → Stage → Type 0
+IsMessageIn size header Between = Unit {0}
+IsMessageIn size header Headed = (header ≡ []) ⊎ IsHeader size header
+IsMessageIn size header (Open m) = IsSent size (header, m)
 
 -- an encoder that has read so far
 pub record IsAt (p : Point) (e : Encoder) : Type 0 where
+  pub size : p.size ≡ e.size
   pub stage : p.stage ≡ e.stage
+  pub header : p.header ≡ e.header.items
   pub count : e.count ≡ length p.done
-  pub valid : All IsMessage p.done
-  pub begun : IsMessageIn p.stage
+  pub valid : All (IsSent p.size) p.done
+  pub begun : IsMessageIn p.size p.header p.stage
   pub frames : AreFramesOf e.frames.items p.done
 
 -- nothing was read
-abbrev pub IsBlank : Encoder → Type 0
-IsBlank e = (e.stage ≡ Between) × (e.count ≡ 0) × (e.frames.items ≡ [])
+pub record IsBlank (size : ℕ) (e : Encoder) : Type 0 where
+  pub sized : e.size ≡ size
+  pub stage : e.stage ≡ Between
+  pub header : e.header.items ≡ []
+  pub count : e.count ≡ 0
+  pub frames : e.frames.items ≡ []
 
 -- the message that was begun is ended, if it has a type
 abbrev pub Closes : Encoder → Encoder → Type 0
@@ -113,40 +139,41 @@ abbrev pub run : Point → List PlainLine → Option Point
 run p [] = Some p
 run p (l ∷ ls) = option_and_then (λ q. run q ls) (step p l)
 
-abbrev pub start : Point
-start = record { done = []; stage = Between }
+abbrev pub start : ℕ → Point
+start size = record { size = size; done = []; header = []; stage = Between }
 
 -- A text was read up to this rest: this many lines, each of which was allowed where it was; the encoder is where they lead.
-pub record IsSoFar (text rest : List ℕ) (lines : ℕ) (e : Encoder) : Type 0 where
+pub record IsSoFar (size : ℕ) (text rest : List ℕ) (lines : ℕ) (e : Encoder) : Type 0 where
   pub read : List PlainLine
   pub point : Point
   pub are_lines : All IsLine read
-  pub reached : run start read ≡ Some point
+  pub reached : run (start size) read ≡ Some point
   pub at : IsAt point e
   pub whole : text ≡ text_of_lines read ++ rest
   pub counted : lines ≡ length read
 
 -- the whole text was read: it is that of the messages that are done
-abbrev pub IsReadWhole : List ℕ → Encoder → Type 0
-IsReadWhole text e = (p : Point) × IsAt p e × (p.stage ≡ Between) × (text ≡ messages_text 1 p.done)
+abbrev pub IsReadWhole : ℕ → List ℕ → Encoder → Type 0
+IsReadWhole size text e = (p : Point) × IsAt p e × (p.size ≡ size) × (p.stage ≡ Between) × (text ≡ messages_text 1 p.done)
 
 -- A text was read up to a line, after this many others: what comes before the line begins the text of messages that are
 -- done and one that may be begun, and the text is that of no messages.
-pub record IsReadUpTo (text : List ℕ) (lines : ℕ) (e : Encoder) : Type 0 where
+pub record IsReadUpTo (size : ℕ) (text : List ℕ) (lines : ℕ) (e : Encoder) : Type 0 where
   pub point : Point
   pub before : List ℕ
   pub rest : List ℕ
   pub at : IsAt point e
+  pub sized : point.size ≡ size
   pub whole : text ≡ before ++ rest
   pub begun : before ≡ text_of point
   pub counted : lines ≡ count_by (λ b. b == 10) before
-  pub refused : IsNoText text
-  pub stuck : IsStuckAfter before rest
+  pub refused : IsNoText size text
+  pub stuck : IsStuckAfter size before rest
 
 -- a text was read whole, or up to a line at which it is refused
-abbrev pub IsReading : List ℕ → Encoder → Option TextError → Type 0
-IsReading text e None = IsReadWhole text e
-IsReading text e (Some error) = (lines : ℕ) × (error.line ≡ lines + 1) × IsReadUpTo text lines e
+abbrev pub IsReading : ℕ → List ℕ → Encoder → Option TextError → Type 0
+IsReading size text e None = IsReadWhole size text e
+IsReading size text e (Some error) = (lines : ℕ) × (error.line ≡ lines + 1) × IsReadUpTo size text lines e
 
 -- a line of these bytes is taken, or no line of these bytes is allowed there
 abbrev pub TakesBytes : Encoder → List ℕ → Encoder → Bool → Type 0

@@ -1,9 +1,11 @@
 //! Messages from the lines of a text, and their frames.
 
-ghost use Rattle.std.specs.Prelude.{◌≡◌, IfOk};
+ghost use Rattle.std.specs.Prelude.{◌≡◌, ◌≤◌, ◌++◌, IfOk, length};
 ghost use Rattle.cli_encode.specs.Reading as spec;
 ghost use Rattle.cli_encode.specs.Frames.{AddsFrame};
+ghost use Rattle.iso_codec.specs.Spelling.{spelling};
 
+use crate::header::read_header;
 use crate::line::Line;
 use iso_codec::encode;
 use iso_msg::{Message, MessageError, Mti};
@@ -16,7 +18,7 @@ use sw_frame::{FrameError, frame};
 pub enum Stage {
     /// Nothing: no message is begun.
     Between,
-    /// Its heading.
+    /// Its heading, and perhaps its header.
     Headed,
     /// Its type and perhaps fields; it may have more.
     Open(Message),
@@ -25,19 +27,44 @@ pub enum Stage {
 /// An encoder of a text: what the lines that were taken so far have made.
 #[derive(Drop)]
 pub struct Encoder {
+    /// How many bytes the header before each message has.
+    pub(crate) size: usize,
     pub(crate) stage: Stage,
+    /// The header of the message that is begun, as far as it was read.
+    pub(crate) header: Vec<u8>,
     /// How many messages are ended.
     pub(crate) count: u64,
     /// The frames of these messages.
     pub(crate) frames: Vec<u8>,
 }
 
-// Adds the frame of a message.
-fn push_frame(alloc: Global, frames: &mut Vec<u8>, message: &Message) -> Result<(), AllocError>
-    ensures { IfOk result (λ _. AddsFrame frames.old.items message.now frames.new.items) }
+// A header and the message after it, as its frame has them.
+fn content_of(alloc: Global, header: &[u8], message: &Message) -> Result<Vec<u8>, AllocError>
+    requires { length header.now ≤ 64 }
+    ensures parts { IfOk result (λ content. content.items ≡ header.now ++ spelling message.now) }
+    ensures short { IfOk result (λ content. length content.items ≤ 9999) }
 {
+    message.is_message();
     let bytes = encode(alloc, message)?;
-    match frame(alloc, &bytes) {
+    let mut content = Vec::with_capacity(alloc, header.len() + bytes.len())?;
+    content.extend_from_slice(header)?;
+    content.extend_from_slice(&bytes)?;
+    Ok(content)
+}
+
+// Adds the frame of a message, which comes after its header.
+fn push_frame(
+    alloc: Global,
+    frames: &mut Vec<u8>,
+    header: &[u8],
+    message: &Message,
+) -> Result<(), AllocError>
+    requires { length header.now ≤ 64 }
+    ensures { IfOk result (λ _.
+        AddsFrame frames.old.items header.now message.now frames.new.items) }
+{
+    let content = content_of(alloc, header, message)?;
+    match frame(alloc, &content) {
         Ok(frame) => frames.extend_from_slice(&frame),
         Err(FrameError::OutOfMemory) => Err(AllocError),
         Err(FrameError::TooLong | FrameError::BadLength) => unreachable!(),
@@ -76,16 +103,18 @@ fn add_field(
 }
 
 impl Encoder {
-    ghost use Rattle.std.specs.Prelude.{◌≡◌, ◌<◌, ◌≤◌, ◌+◌, ◌^◌, IfOk};
+    ghost use Rattle.std.specs.Prelude.{◌≡◌, ◌<◌, ◌≤◌, ◌+◌, ◌^◌, IfOk, length};
     ghost use Rattle.cli_encode.specs.Reading as spec;
-    ghost use Rattle.cli_encode.specs.Lines.{Field, Heading, MessageType, plain_line};
+    ghost use Rattle.cli_encode.specs.Lines.{Field, Header, Heading, MessageType, plain_line};
 
-    /// An encoder that has read nothing.
-    pub fn new(alloc: Global) -> Encoder
-        ensures { spec.IsBlank result }
+    /// An encoder that has read nothing, of messages with headers of `size` bytes.
+    pub fn new(alloc: Global, size: usize) -> Encoder
+        ensures { spec.IsBlank size result }
     {
         Encoder {
+            size,
             stage: Stage::Between,
+            header: Vec::new(alloc),
             count: 0,
             frames: Vec::new(alloc),
         }
@@ -93,12 +122,14 @@ impl Encoder {
 
     // Ends the message that was begun, if it has a type.
     fn close(&mut self, alloc: Global) -> Result<(), AllocError>
-        requires { self.old.count < 2 ^ 63 }
+        requires room { self.old.count < 2 ^ 63 }
+        requires short { length self.old.header.items ≤ 64 }
         ensures closed { IfOk result (λ _. spec.Closes self.old self.new) }
         ensures counted { self.new.count ≤ self.old.count + 1 }
+        ensures short { length self.new.header.items ≤ 64 }
     {
         if let Stage::Open(message) = &self.stage {
-            push_frame(alloc, &mut self.frames, message)?;
+            push_frame(alloc, &mut self.frames, &self.header, message)?;
             self.count += 1;
             self.stage = Stage::Between;
         }
@@ -107,9 +138,11 @@ impl Encoder {
 
     // Takes a heading, which ends the message before it.
     fn head(&mut self, alloc: Global, word: &[u8]) -> Result<bool, AllocError>
-        requires { self.old.count < 2 ^ 63 }
+        requires room { self.old.count < 2 ^ 63 }
+        requires short { length self.old.header.items ≤ 64 }
         ensures taken { IfOk result (spec.Takes self.old (Heading word.now) self.new) }
         ensures counted { self.new.count ≤ self.old.count + 1 }
+        ensures short { length self.new.header.items ≤ 64 }
     {
         if let Stage::Headed = self.stage {
             return Ok(false);
@@ -119,18 +152,43 @@ impl Encoder {
         if word != buffer.format(self.count + 1).as_bytes() {
             return Ok(false);
         }
+        self.header.clear();
         self.stage = Stage::Headed;
         Ok(true)
     }
 
-    // Takes a message's type, which is allowed only after a heading.
+    // Takes a header, which is allowed only after a heading, and once.
+    fn name(&mut self, alloc: Global, digits: &[u8]) -> Result<bool, AllocError>
+        requires short { length self.old.header.items ≤ 64 }
+        ensures taken { IfOk result (spec.Takes self.old (Header digits.now) self.new) }
+        ensures counted { self.new.count ≡ self.old.count }
+        ensures short { length self.new.header.items ≤ 64 }
+    {
+        let Stage::Headed = self.stage else {
+            return Ok(false);
+        };
+        if !self.header.is_empty() {
+            return Ok(false);
+        }
+        let Some(header) = read_header(alloc, self.size, digits)? else {
+            return Ok(false);
+        };
+        self.header = header;
+        Ok(true)
+    }
+
+    // Takes a message's type, which is allowed only after a heading and the header.
     fn begin(&mut self, alloc: Global, mti: Mti) -> bool
         ensures taken { spec.Takes self.old (MessageType mti) self.new result }
         ensures counted { self.new.count ≡ self.old.count }
+        ensures same { self.new.header ≡ self.old.header }
     {
         let Stage::Headed = self.stage else {
             return false;
         };
+        if self.header.len() != self.size {
+            return false;
+        }
         // Called only for the proof: that there are four digits.
         let _ = mti.digits();
         self.stage = Stage::Open(Message::new(alloc, mti));
@@ -141,6 +199,7 @@ impl Encoder {
     fn add(&mut self, alloc: Global, number: u8, value: &[u8]) -> Result<bool, AllocError>
         ensures taken { IfOk result (spec.Takes self.old (Field number value.now) self.new) }
         ensures counted { self.new.count ≡ self.old.count }
+        ensures same { self.new.header ≡ self.old.header }
     {
         let Stage::Open(message) = &mut self.stage else {
             return Ok(false);
@@ -150,12 +209,15 @@ impl Encoder {
 
     /// Takes a line, and answers whether it is allowed there.
     pub fn take(&mut self, alloc: Global, line: &Line<'_>) -> Result<bool, AllocError>
-        requires { self.old.count < 2 ^ 63 }
+        requires room { self.old.count < 2 ^ 63 }
+        requires short { length self.old.header.items ≤ 64 }
         ensures taken { IfOk result (spec.Takes self.old (plain_line line.now) self.new) }
         ensures counted { self.new.count ≤ self.old.count + 1 }
+        ensures short { length self.new.header.items ≤ 64 }
     {
         match line {
             Line::Heading(word) => self.head(alloc, word),
+            Line::Header(digits) => self.name(alloc, digits),
             Line::MessageType(mti) => Ok(self.begin(alloc, *mti)),
             Line::Field(number, value) => self.add(alloc, *number, value.as_slice()),
         }
@@ -163,7 +225,8 @@ impl Encoder {
 
     /// Ends the text. Answers whether it may end there: after a heading it may not.
     pub fn finish(&mut self, alloc: Global) -> Result<bool, AllocError>
-        requires { self.old.count < 2 ^ 63 }
+        requires room { self.old.count < 2 ^ 63 }
+        requires short { length self.old.header.items ≤ 64 }
         ensures { IfOk result (spec.Finishes self.old self.new) }
     {
         if let Stage::Headed = self.stage {

@@ -8,11 +8,32 @@ use iso_msg::{ExpectedValue, FieldForm, FieldLabel, form_at};
 use std::fmt;
 use thiserror::Error;
 
+/// What is awaited after a heading.
+#[derive(Clone, Copy)]
+pub enum Awaited {
+    /// A header in this many digits.
+    Header(usize),
+    /// The message's type.
+    MessageType,
+}
+
+impl fmt::Display for Awaited {
+    fn fmt<W: fmt::Write>(&self, f: &mut fmt::Formatter<W>) -> fmt::Result {
+        match self {
+            Awaited::Header(digits) => write!(
+                f,
+                "\"header\" and {digits} hexadecimal digits in upper case"
+            ),
+            Awaited::MessageType => f.write_str("\"mti\" and 4 digits"),
+        }
+    }
+}
+
 /// What is wrong with a line, and what was expected.
 #[derive(Drop)]
 pub enum Fault {
-    /// The text ends after a heading.
-    Ended,
+    /// The text ends where this is awaited.
+    Ended(Awaited),
     /// The last line has no line feed.
     NoLineFeed,
     /// The line ends with a carriage return.
@@ -22,8 +43,13 @@ pub enum Fault {
         found: Quoted,
         expected: u64,
     },
-    /// Not a message's type.
-    MessageType {
+    /// Not what is awaited after a heading.
+    Opening {
+        found: Quoted,
+        expected: Awaited,
+    },
+    /// A header, where messages have none.
+    NoHeader {
         found: Quoted,
     },
     /// Neither a field nor the heading of the message of this number.
@@ -79,7 +105,7 @@ fn fmt_value<W: fmt::Write>(
 impl fmt::Display for Fault {
     fn fmt<W: fmt::Write>(&self, f: &mut fmt::Formatter<W>) -> fmt::Result {
         match self {
-            Fault::Ended => f.write_str("the text ends; expected \"mti\" and 4 digits"),
+            Fault::Ended(expected) => write!(f, "the text ends; expected {expected}"),
             Fault::NoLineFeed => {
                 f.write_str("the last line has no line feed; expected one at its end")
             }
@@ -89,9 +115,12 @@ impl fmt::Display for Fault {
             Fault::Heading { found, expected } => {
                 write!(f, "found {found}; expected \"message {expected}\"")
             }
-            Fault::MessageType { found } => {
-                write!(f, "found {found}; expected \"mti\" and 4 digits")
-            }
+            Fault::Opening { found, expected } => write!(f, "found {found}; expected {expected}"),
+            Fault::NoHeader { found } => write!(
+                f,
+                "found {found}; expected {}, since without --header no message has a header",
+                Awaited::MessageType
+            ),
             Fault::Unknown { found, next } => write!(
                 f,
                 "found {found}; expected a field's number and value, or \"message {next}\""

@@ -1,8 +1,8 @@
 //! What is wrong with a line that is refused.
 
-use crate::cut::cut_at;
+use crate::cut::{after, cut_at};
 use crate::encoder::{Encoder, Stage, last_number};
-use crate::error::Fault;
+use crate::error::{Awaited, Fault};
 use crate::line::number_in;
 use cli_io::Quoted;
 use iso_msg::{Message, form_at};
@@ -48,6 +48,32 @@ fn line_fault(message: &Message, line: &[u8], next: u64) -> Fault {
     }
 }
 
+// What an encoder awaits after a heading.
+fn awaited(encoder: &Encoder) -> Awaited {
+    if encoder.header.len() == encoder.size {
+        Awaited::MessageType
+    } else {
+        Awaited::Header(encoder.size.saturating_mul(2))
+    }
+}
+
+// Why a line after a heading is refused.
+fn opening_fault(encoder: &Encoder, line: &[u8]) -> Fault {
+    let found = Quoted::of(line);
+    if encoder.size == 0 && after(line, b"header ").is_some() {
+        return Fault::NoHeader { found };
+    }
+    Fault::Opening {
+        found,
+        expected: awaited(encoder),
+    }
+}
+
+/// Why a text may not end where it does, after a heading.
+pub fn end_fault(encoder: &Encoder) -> Fault {
+    Fault::Ended(awaited(encoder))
+}
+
 /// Why an encoder has refused a line.
 pub fn fault_of(encoder: &Encoder, line: &[u8]) -> Fault {
     if line.last() == Some(&b'\r') {
@@ -59,9 +85,7 @@ pub fn fault_of(encoder: &Encoder, line: &[u8]) -> Fault {
             found: Quoted::of(line),
             expected: number,
         },
-        Stage::Headed => Fault::MessageType {
-            found: Quoted::of(line),
-        },
+        Stage::Headed => opening_fault(encoder, line),
         Stage::Open(message) => line_fault(message, line, number.saturating_add(1)),
     }
 }

@@ -35,6 +35,8 @@ impl Value<'_> {
 pub enum Line<'a> {
     /// `message` and a word.
     Heading(&'a [u8]),
+    /// `header` and a word.
+    Header(&'a [u8]),
     /// `mti` and four digits.
     MessageType(Mti),
     /// A field's number and its value, of which only the form on the line is known: eight bytes in a binary field,
@@ -118,13 +120,16 @@ fn read_field(line: &[u8]) -> Option<Line<'_>>
     Some(Line::Field(number, value))
 }
 
-/// What a line says, which is given without its line feed; `None` if it has none of the three forms.
+/// What a line says, which is given without its line feed; `None` if it has none of the four forms.
 pub fn read_line(line: &[u8]) -> Option<Line<'_>>
     requires { spec.has_byte 10 line.now ≡ false }
     ensures { MatchOption result (spec.SaysNothing line.entry.now) (spec.Says line.entry.now) }
 {
     if let Some(word) = after(line, b"message ") {
         return Some(Line::Heading(word));
+    }
+    if let Some(digits) = after(line, b"header ") {
+        return Some(Line::Header(digits));
     }
     if let Some(digits) = after(line, b"mti ") {
         let mti = read_type(digits)?;

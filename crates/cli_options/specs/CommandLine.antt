@@ -17,6 +17,7 @@ use Rattle.clap.specs.declared.builder.Command.TheViews.{out-Command}
 use Rattle.cli_options.specs.declared.choice.Options.{Options}
 use Rattle.cli_options.specs.declared.choice.Options.TheVariants.{Asm, Check, Decode, Encode, Graph, Journal, List as ListImage, Recover, Run, Step}
 use Rattle.cli_options.specs.declared.choice.CheckOptions.{CheckOptions}
+use Rattle.cli_options.specs.declared.choice.DecodeOptions.{DecodeOptions}
 use Rattle.cli_options.specs.declared.choice.JournalOptions.{JournalOptions}
 use Rattle.cli_options.specs.declared.choice.RecoverOptions.{RecoverOptions}
 use Rattle.cli_options.specs.declared.choice.StepOptions.{StepOptions}
@@ -76,13 +77,13 @@ list_app = new_app (codes "list")
 abbrev pub graph_app : App
 graph_app = with_rule (with_rule (new_app (codes "graph")) (needed_rule (codes "flow"))) (flag_rule (codes "dot"))
 
--- `decode [--mask]`
+-- `decode [--mask] [--header N]`
 abbrev pub decode_app : App
-decode_app = with_rule (new_app (codes "decode")) (flag_rule (codes "mask"))
+decode_app = with_rule (with_rule (new_app (codes "decode")) (flag_rule (codes "mask"))) (option_rule (codes "header"))
 
--- `encode`, without options
+-- `encode [--header N]`
 abbrev pub encode_app : App
-encode_app = new_app (codes "encode")
+encode_app = with_rule (new_app (codes "encode")) (option_rule (codes "header"))
 
 -- `recover --flow PATH [--config PATH] --journal PATH`
 abbrev pub recover_app : App
@@ -137,6 +138,11 @@ within_header n = if nat_le n 64 then Some n else None
 abbrev pub header_in : Option Text → Option (Option ℕ)
 header_in None = Some None
 header_in (Some word) = option_map Some (option_and_then within_header (number_spelled word))
+
+-- the same where a header that is left out has no bytes
+abbrev pub header_of : Option Text → Option ℕ
+header_of None = Some 0
+header_of (Some word) = option_and_then within_header (number_spelled word)
 
 -- whether a flag was given
 abbrev pub is_set : Option Text → Bool
@@ -196,6 +202,11 @@ pub record AreStepOptions (rows : List Row) (o : StepOptions) : Type 0 where
   pub prompt : o.prompt ≡ is_set (first_of (codes "prompt") rows)
   pub switch : o.switch ≡ is_set (first_of (codes "switch") rows)
 
+-- the same of `decode`
+pub record AreDecodeOptions (rows : List Row) (o : DecodeOptions) : Type 0 where
+  pub masking : o.masking ≡ masking_of (is_set (first_of (codes "mask") rows))
+  pub header : header_of (first_of (codes "header") rows) ≡ Some o.header
+
 -- the same of `recover`
 pub record AreRecoverOptions (rows : List Row) (o : RecoverOptions) : Type 0 where
   pub flow : Some o.flow.now ≡ first_of (codes "flow") rows
@@ -220,8 +231,8 @@ AreOptionsAt name rows Asm = name ≡ codes "asm"
 AreOptionsAt name rows ListImage = name ≡ codes "list"
 AreOptionsAt name rows (Graph flow form) =
     (name ≡ codes "graph") × (Some flow.now ≡ first_of (codes "flow") rows) × (form ≡ graph_form (is_set (first_of (codes "dot") rows)))
-AreOptionsAt name rows (Decode masking) = (name ≡ codes "decode") × (masking ≡ masking_of (is_set (first_of (codes "mask") rows)))
-AreOptionsAt name rows Encode = name ≡ codes "encode"
+AreOptionsAt name rows (Decode o) = (name ≡ codes "decode") × AreDecodeOptions rows o
+AreOptionsAt name rows (Encode header) = (name ≡ codes "encode") × (header_of (first_of (codes "header") rows) ≡ Some header)
 AreOptionsAt name rows (Recover o) = (name ≡ codes "recover") × AreRecoverOptions rows o
 AreOptionsAt name rows (Journal o) = (name ≡ codes "journal") × AreJournalOptions rows o
 AreOptionsAt name rows (Check o) = (name ≡ codes "check") × AreCheckOptions rows o

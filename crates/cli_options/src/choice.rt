@@ -17,11 +17,11 @@ pub enum Options<'a> {
     /// `graph`: prints a picture of the flow in the flow file at a path, for Mermaid, or with `--dot` for
     /// Graphviz.
     Graph { flow: &'a str, form: GraphForm },
-    /// `decode`: prints the fields of the messages in frames from standard input, with `--mask` without what
-    /// sensitive fields hold.
-    Decode { masking: Masking },
-    /// `encode`: writes the frames of the messages whose text, as `decode` prints it, comes from standard input.
-    Encode,
+    /// `decode`: prints the fields of the messages in frames from standard input.
+    Decode(DecodeOptions),
+    /// `encode`: writes the frames of the messages whose text, as `decode` prints it, comes from standard input. The
+    /// header before each message has `header` bytes, 0 to 64.
+    Encode { header: u64 },
     /// `recover`: finishes what a journal has unfinished, by the flow of the flow file at a path, and
     /// prints its lines.
     Recover(RecoverOptions<'a>),
@@ -65,6 +65,15 @@ pub struct StepOptions<'a> {
     pub prompt: bool,
     /// Whether the participants are the switch's own, over simulated issuers.
     pub switch: bool,
+}
+
+/// What `decode` is given.
+#[derive(Clone, Copy)]
+pub struct DecodeOptions {
+    /// Whether `--mask` asks that what sensitive fields hold is not shown.
+    pub masking: Masking,
+    /// How many bytes the header before each message has, 0 to 64.
+    pub header: u64,
 }
 
 /// What `recover` is given.

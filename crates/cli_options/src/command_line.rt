@@ -2,14 +2,15 @@
 ghost use Rattle.std.specs.Prelude.{◌≡◌, IfErr, IfOk, None, OnOk, Some, codes, map};
 ghost use Rattle.clap.specs.Words.{first_of, found_of, rows_of};
 ghost use Rattle.cli_options.specs.CommandLine.{AreOptionsAt, AreOptionsOf, AreRunOptions};
-ghost use Rattle.cli_options.specs.CommandLine.{graph_form, header_in, is_set, journal_form, masking_of, number_in};
+ghost use Rattle.cli_options.specs.CommandLine.{AreDecodeOptions, graph_form, header_in, header_of, is_set, journal_form};
+ghost use Rattle.cli_options.specs.CommandLine.{masking_of, number_in};
 ghost use Rattle.cli_options.specs.CommandLine.{stats_in, text_of, trace_in};
 ghost use Rattle.cli_options.specs.Refusal.{IsAccepted, IsBadForm, IsBadNumber, IsRefusalAt};
-ghost use Rattle.cli_options.specs.Refusal.{IsRefusalOf, IsRunRefusal};
+ghost use Rattle.cli_options.specs.Refusal.{IsDecodeRefusal, IsRefusalOf, IsRunRefusal};
 
 use crate::choice::{
-    CheckOptions, JournalOptions, Options, RecoverOptions, RunOptions, StatsLines, StepOptions,
-    TraceForm,
+    CheckOptions, DecodeOptions, JournalOptions, Options, RecoverOptions, RunOptions, StatsLines,
+    StepOptions, TraceForm,
 };
 use crate::error::OptionsError;
 use crate::table::switch_command;
@@ -126,6 +127,18 @@ fn header_in(text: Option<&str>) -> Result<Option<u64>, OptionsError>
     }
 }
 
+/// The same where a header has no bytes if `--header` was not given.
+fn header_of(text: Option<&str>) -> Result<u64, OptionsError>
+    ensures found { IfOk result (λ n. header_of (text_of text.entry) ≡ Some n) }
+    ensures refused { IfErr result (λ e. IsBadNumber e × (header_of (text_of text.entry) ≡ None)) }
+{
+    match header_in(text) {
+        Ok(Some(number)) => Ok(number),
+        Ok(None) => Ok(0),
+        Err(error) => Err(error),
+    }
+}
+
 /// The lines of numbers that `--stats` asks for: without a value, as with `end`, one at the end.
 fn stats_in(text: Option<&str>) -> Result<StatsLines, OptionsError>
     ensures found { IfOk result (λ lines. stats_in (text_of text.entry) ≡ Some lines) }
@@ -183,6 +196,17 @@ fn run_options<'a>(found: &ArgMatches<'a>) -> Result<RunOptions<'a>, OptionsErro
     })
 }
 
+/// The options of `decode`, by what clap found for it.
+fn decode_options(found: &ArgMatches<'_>) -> Result<DecodeOptions, OptionsError>
+    ensures found { IfOk result (AreDecodeOptions (rows_of (found_of found.now))) }
+    ensures refused { IfErr result (IsDecodeRefusal (rows_of (found_of found.now))) }
+{
+    Ok(DecodeOptions {
+        masking: masking_of(is_set(text_at(found, "mask"))),
+        header: header_of(text_at(found, "header"))?,
+    })
+}
+
 /// The options of the subcommand `name`, by what clap found for it.
 fn options_at<'a>(name: &str, found: &ArgMatches<'a>) -> Result<Options<'a>, OptionsError>
     ensures found { IfOk result (AreOptionsAt name.now (rows_of (found_of found.now))) }
@@ -203,10 +227,10 @@ fn options_at<'a>(name: &str, found: &ArgMatches<'a>) -> Result<Options<'a>, Opt
             }),
             None => Err(OptionsError::NoSubcommand),
         },
-        "decode" => Ok(Options::Decode {
-            masking: masking_of(is_set(text_at(found, "mask"))),
+        "decode" => Ok(Options::Decode(decode_options(found)?)),
+        "encode" => Ok(Options::Encode {
+            header: header_of(text_at(found, "header"))?,
         }),
-        "encode" => Ok(Options::Encode),
         "recover" => match (text_at(found, "flow"), text_at(found, "journal")) {
             (Some(flow), Some(journal)) => Ok(Options::Recover(RecoverOptions {
                 flow,

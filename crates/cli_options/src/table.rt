@@ -95,17 +95,30 @@ const COMMANDS: [CommandRow<'static>; 10] = [
     CommandRow {
         name: "decode",
         about: "Prints the fields of each ISO 8583 message in frames from standard input",
-        options: &[OptionRow {
-            name: "mask",
-            given: Given::Flag,
-            help: "Masks card numbers and hides tracks, PIN, chip data and MAC",
-            is_required: false,
-        }],
+        options: &[
+            OptionRow {
+                name: "mask",
+                given: Given::Flag,
+                help: "Masks card numbers and hides tracks, PIN, chip data and MAC",
+                is_required: false,
+            },
+            OptionRow {
+                name: "header",
+                given: Given::Value("N"),
+                help: "The bytes of a header before each message of a frame, 0 to 64, which are shown in hexadecimal [default: 0]",
+                is_required: false,
+            },
+        ],
     },
     CommandRow {
         name: "encode",
         about: "Writes the frames of messages, read as text as decode prints it from standard input",
-        options: &[],
+        options: &[OptionRow {
+            name: "header",
+            given: Given::Value("N"),
+            help: "The bytes of a header before each message of a frame, 0 to 64, which the text has in hexadecimal [default: 0]",
+            is_required: false,
+        }],
     },
     CommandRow {
         name: "recover",

@@ -5,7 +5,7 @@ use Rattle.cli_decode.proofs.stream.decode_stream.Given as goal
 
 abbrev pub invariant-loop-decoder : goal.invariant-loop-decoder
 invariant-loop-decoder g l = record {
-  so_far : IsSoFar l.masking (unread g.R.Read.remaining l.fn.input) (unread g.R.Read.remaining l.input) (g.W.Write.contents l.fn.out)
+  so_far : IsSoFar l.style (unread g.R.Read.remaining l.fn.input) (unread g.R.Read.remaining l.input) (g.W.Write.contents l.fn.out)
       (g.W.Write.contents l.out) (reads_made l.input) l.decoder;
   room : length l.buf ≡ 65536;
 }
