@@ -41,3 +41,6 @@ pub use error::{FrameError, StreamError};
 pub use framer::Framer;
 pub use pieces::{StreamReading, one_stream, read_pieces, written_is_read};
 pub use write::frame_of;
+
+#[cfg(test)]
+mod tests;
