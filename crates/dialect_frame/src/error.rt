@@ -9,10 +9,10 @@ use thiserror::Error;
 #[derive(Clone, Copy, Debug, PartialEq, Eq, Drop, Error)]
 pub enum FrameError {
     /// The message has more bytes than one may have, which is this many.
-    #[error("the message is too long for the profile: expected at most {0} bytes")]
+    #[error("the message is too long; expected at most {0} bytes")]
     OverMost(u16),
     /// With the header, it has more bytes than the length can count.
-    #[error("the message is too long: expected no more bytes than the length of a frame can count")]
+    #[error("the message is too long; expected no more bytes than the length of a frame can count")]
     OverLength,
     /// Memory was refused. The message has a frame.
     #[error("out of memory")]
@@ -31,7 +31,7 @@ impl From<AllocError> for FrameError {
 #[derive(Clone, Copy, Debug, PartialEq, Eq, Drop, Error)]
 pub enum StreamError {
     /// The bytes in a length's place are the length of no message that may come.
-    #[error("no frame begins here: expected a length of the profile, and at most its most bytes")]
+    #[error("no frame begins here; expected the length of a message that is not too long")]
     BadLength,
     /// Memory was refused. Nothing has changed.
     #[error("out of memory")]
