@@ -17,6 +17,7 @@ use crate::error::RunError;
 use crate::flow_file::flow_at;
 use crate::looking::look_into;
 use crate::machine::Machine;
+use crate::recoding::recode;
 use crate::requests::{answer_requests, recover};
 use crate::steps::step;
 use cli_decode::decode_stream;
@@ -155,6 +156,7 @@ fn run_subcommand<
         Options::Graph { flow, form } => graph(alloc, rt, flow, *form, out),
         Options::Decode { masking } => decode(alloc, *masking, input, out),
         Options::Encode => encode(alloc, input, out),
+        Options::Recode { profile, way } => recode(alloc, rt, profile, *way, input, out, err),
         Options::Recover(options) => recover(machine, options, out),
         Options::Journal(options) => look_into(alloc, rt, options, out),
         Options::Check(options) => check(alloc, rt, options),

@@ -4,11 +4,13 @@ ghost use Rattle.clap.specs.Words.{first_of, found_of, rows_of};
 ghost use Rattle.cli_options.specs.CommandLine.{AreOptionsAt, AreOptionsOf, AreRunOptions};
 ghost use Rattle.cli_options.specs.CommandLine.{graph_form, header_in, is_set, journal_form, masking_of, number_in};
 ghost use Rattle.cli_options.specs.CommandLine.{stats_in, text_of, trace_in};
+ghost use Rattle.cli_options.specs.CommandLine.{IsRecodeOf, recode_in};
+ghost use Rattle.cli_options.specs.Refusal.{IsOneProfile};
 ghost use Rattle.cli_options.specs.Refusal.{IsAccepted, IsBadForm, IsBadNumber, IsRefusalAt};
 ghost use Rattle.cli_options.specs.Refusal.{IsRefusalOf, IsRunRefusal};
 
 use crate::choice::{
-    CheckOptions, JournalOptions, Options, RecoverOptions, RunOptions, StatsLines, StepOptions,
+    CheckOptions, JournalOptions, Options, RecodeWay, RecoverOptions, RunOptions, StatsLines, StepOptions,
     TraceForm,
 };
 use crate::error::OptionsError;
@@ -183,6 +185,28 @@ fn run_options<'a>(found: &ArgMatches<'a>) -> Result<RunOptions<'a>, OptionsErro
     })
 }
 
+/// The options of `recode`: a profile file and which way, if exactly one of its options was given.
+fn recode_options<'a>(
+    from: Option<&'a str>,
+    to: Option<&'a str>,
+) -> Result<Options<'a>, OptionsError>
+    ensures found { IfOk result (IsRecodeOf (text_of from.entry) (text_of to.entry)) }
+    ensures refused { IfErr result (λ e. IsOneProfile e
+        × (recode_in (text_of from.entry) (text_of to.entry) ≡ None)) }
+{
+    match (from, to) {
+        (Some(profile), None) => Ok(Options::Recode {
+            profile,
+            way: RecodeWay::From,
+        }),
+        (None, Some(profile)) => Ok(Options::Recode {
+            profile,
+            way: RecodeWay::To,
+        }),
+        _ => Err(OptionsError::OneProfile),
+    }
+}
+
 /// The options of the subcommand `name`, by what clap found for it.
 fn options_at<'a>(name: &str, found: &ArgMatches<'a>) -> Result<Options<'a>, OptionsError>
     ensures found { IfOk result (AreOptionsAt name.now (rows_of (found_of found.now))) }
@@ -207,6 +231,7 @@ fn options_at<'a>(name: &str, found: &ArgMatches<'a>) -> Result<Options<'a>, Opt
             masking: masking_of(is_set(text_at(found, "mask"))),
         }),
         "encode" => Ok(Options::Encode),
+        "recode" => recode_options(text_at(found, "from"), text_at(found, "to")),
         "recover" => match (text_at(found, "flow"), text_at(found, "journal")) {
             (Some(flow), Some(journal)) => Ok(Options::Recover(RecoverOptions {
                 flow,
