@@ -1,6 +1,6 @@
 -- The frames of the switch.
 -- for: laws::own_frames_are_the_switchs
-use Rattle.std.proofs.Common.{◌≡◌, ◌∙◌, ap, zero-add, ℕ, ◌+◌, List, [], ◌∷◌, ◌++◌, length, Some, refl, arith}
+use Rattle.std.proofs.Common.{◌≡◌, ◌∙◌, ap, zero-add, ℕ, List, [], ◌∷◌, ◌++◌, length, Some, refl, arith}
 use Rattle.cli_recode.specs.Streams.{OwnFramesAreTheSwitchs}
 
 nothing : (xs : List ℕ) → length xs ≡ 0 → xs ≡ []

@@ -1,6 +1,6 @@
 -- What a piece adds to what was recoded.
 -- for: recoder::Recoder::piece
-use Rattle.std.proofs.Common.{◌≡◌, ◌∙◌, sym, ap, subst, ℕ, Bool, true, false, List, [], ◌++◌, Option}
+use Rattle.std.proofs.Common.{◌≡◌, ◌∙◌, sym, ap, subst, ℕ, Bool, false, List, [], ◌++◌, Option}
 use Rattle.std.specs.Prelude.{◌||◌}
 use Rattle.std.specs.Io.KnownBytes.{Keeps}
 use Rattle.std.proofs.KnownBytes.{Keeps-refl}
@@ -41,7 +41,8 @@ stayed form job bytes out piece text ms r s h goes same none refused = record {
 }
 
 -- nothing was refused before, nor of these messages
-pub quiet_after : (before left after : Bool) (e0 e1 : Option (List ℕ)) → after ≡ (before || left) → (left ≡ false → Keeps e0 e1) → IsQuietStep before after e0 e1
+pub quiet_after : (before left after : Bool) (e0 e1 : Option (List ℕ)) → after ≡ (before || left) → (left ≡ false → Keeps e0 e1) →
+    IsQuietStep before after e0 e1
 quiet_after before left after e0 e1 is quiet e = (or-left before left (sym is ∙ e), quiet (or-right before left (sym is ∙ e)))
 
 pub quiet_same : (before after : Bool) (e0 : Option (List ℕ)) → after ≡ before → IsQuietStep before after e0 e0

@@ -1,7 +1,6 @@
 -- What a message is recoded to, and why it is left out.
-use Rattle.std.specs.Prelude.{◌≡◌, ◌<◌, ◌+◌, ⊤, ℕ, Bool, true, false, ◌||◌, List, [], ◌∷◌, ◌++◌, length, Result, Ok, Err}
+use Rattle.std.specs.Prelude.{◌≡◌, ◌<◌, ◌+◌, ⊤, ℕ, Bool, true, false, ◌||◌, List, [], ◌∷◌, ◌++◌, length, Err}
 use Rattle.iso_codec.specs.Reads.{read}
-use Rattle.iso_codec.specs.declared.error.DecodeError.{DecodeError}
 use Rattle.iso_dialect.specs.Ascii.{IsAsciiOf}
 use Rattle.iso_dialect.specs.Readings.{read_as}
 use Rattle.iso_dialect.specs.Writings.{IsWriteFault, IsWrittenOf}

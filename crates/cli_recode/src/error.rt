@@ -1,7 +1,8 @@
 //! Why a message is left out, and why a profile file is not taken.
 
 ghost use Rattle.std.specs.Prelude.{◌≡◌};
-ghost use Rattle.cli_recode.specs.Conversion.{error_of_decode, error_of_frame, error_of_profile, error_of_write};
+ghost use Rattle.cli_recode.specs.Conversion.{error_of_decode, error_of_frame};
+ghost use Rattle.cli_recode.specs.Conversion.{error_of_profile, error_of_write};
 ghost use Rattle.cli_recode.specs.declared.error.ProfileLoadError.TheVariants as load;
 
 use cli_io::IoError;

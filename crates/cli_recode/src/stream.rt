@@ -126,15 +126,7 @@ fn recode_by<R: Read, O: Write, E: Write>(
     let mut recoder = Recoder::new(alloc, form);
     let mut buf = [0u8; PIECE];
     loop {
-        let more = recode_piece(
-            alloc,
-            recoding,
-            input,
-            &mut recoder,
-            &mut buf,
-            out,
-            err,
-        )?;
+        let more = recode_piece(alloc, recoding, input, &mut recoder, &mut buf, out, err)?;
         if !more {
             return Ok(recoder.finish(err));
         }

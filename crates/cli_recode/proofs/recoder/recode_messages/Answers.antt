@@ -1,4 +1,4 @@
-use Rattle.std.proofs.Common.{◌≡◌, ◌∙◌, ap, sym, subst, refl, List, ℕ, [], ◌++◌}
+use Rattle.std.proofs.Common.{◌∙◌, ap, subst, List, ℕ, ◌++◌}
 use Rattle.cli_recode.specs.Recodings.{IsRecodedFrame, IsRefusal}
 use Rattle.cli_recode.proofs.Written.{framed, left_out}
 use Rattle.cli_recode.proofs.recoder.recode_messages.Goals.{in-Ok+in_ok-extend_from_slice-in-Ok, in-Err+in_ok-report-in-Err}

@@ -1,4 +1,4 @@
-use Rattle.std.proofs.Common.{◌≡◌, ap, sym, subst, refl, List, ℕ, [], ◌++◌, Err}
+use Rattle.std.proofs.Common.{subst, refl, List, ℕ, [], Err}
 use Rattle.std.specs.Global.{Vec}
 use Rattle.sw_frame.specs.Feeds.{messages}
 use Rattle.dialect_frame.specs.Feeds.{StreamGoesOn}
@@ -29,6 +29,6 @@ returns-in-Err-BadLength-clause-recoded g c =
       [],
       stayed form job bytes out piece c.new.result.items ms r _ h
           (λ p. subst (λ e. StreamGoesOn r.framer.form bytes ms piece (Err e) r.framer.has c.feed.new.self.has) c.in-Err-BadLength.field-0-is
-              (c.in-Err-BadLength.ensures.so_far bytes ms p))
+          (c.in-Err-BadLength.ensures.so_far bytes ms p))
           c.in-Err-BadLength.ensures.answer.1 c.new.ensures.items refl,
     )
