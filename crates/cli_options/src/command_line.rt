@@ -10,8 +10,8 @@ ghost use Rattle.cli_options.specs.Refusal.{IsAccepted, IsBadForm, IsBadNumber, 
 ghost use Rattle.cli_options.specs.Refusal.{IsRefusalOf, IsRunRefusal};
 
 use crate::choice::{
-    CheckOptions, JournalOptions, Options, RecodeWay, RecoverOptions, RunOptions, StatsLines, StepOptions,
-    TraceForm,
+    CheckOptions, JournalOptions, Options, RecodeWay, RecoverOptions, RunOptions, StatsLines,
+    StepOptions, TraceForm,
 };
 use crate::error::OptionsError;
 use crate::table::switch_command;
