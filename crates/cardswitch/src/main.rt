@@ -71,6 +71,7 @@ mod log_file;
 mod looking;
 mod machine;
 mod program;
+mod recoding;
 mod requests;
 mod steps;
 

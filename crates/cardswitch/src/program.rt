@@ -17,6 +17,7 @@ use crate::error::RunError;
 use crate::flow_file::flow_at;
 use crate::looking::look_into;
 use crate::machine::Machine;
+use crate::recoding::recode;
 use crate::requests::{answer_requests, recover};
 use crate::steps::step;
 use cli_decode::{FrameStyle, decode_stream};
@@ -140,12 +141,7 @@ fn encode<R: Read + Drop, O: Write>(
     ensures failed { IfErr result (IsEncodeFault header
         (R.remaining input) (O.contents out.old) (O.contents out.new)) }
 {
-    Ok(encode_stream(
-        alloc,
-        header as usize,
-        &mut Input::new(input),
-        out,
-    )?)
+    Ok(encode_stream(alloc, header as usize, &mut Input::new(input), out)?)
 }
 
 fn run_subcommand<
@@ -175,6 +171,7 @@ fn run_subcommand<
         Options::Graph { flow, form } => graph(alloc, rt, flow, *form, out),
         Options::Decode(options) => decode(alloc, options, input, out),
         Options::Encode { header } => encode(alloc, *header, input, out),
+        Options::Recode { profile, way } => recode(alloc, rt, profile, *way, input, out, err),
         Options::Recover(options) => recover(machine, options, out),
         Options::Journal(options) => look_into(alloc, rt, options, out),
         Options::Check(options) => check(alloc, rt, options),
