@@ -8,7 +8,8 @@
 //!
 //! Where its function `run` gives status 0, nothing is written to standard error, except by two
 //! subcommands. `run` reports there the messages that it passes over, and writes its trace, its numbers
-//! and its words. `step` at a prompt reports the lines that it refuses. What `asm`, `list`, `graph`,
+//! and its words. `step` at a prompt reports the lines that it refuses. (Of `recode`, which reports what
+//! it leaves out, `cli_recode` says this, and no contract of this crate does.) What `asm`, `list`, `graph`,
 //! `decode` and `encode` promise holds of what was read and written (`IsDone`). Every other status is
 //! that of an error which holds of what was read and written (`IsFailed`). A refused flow file or image
 //! has that fault, and nothing is written. A refused stream has its text written, and something refused
@@ -28,6 +29,10 @@
 //!   terminal is only tested.
 //! - The fault of the flow file of `step` comes first, and nothing is written then. After a fault of
 //!   its script what was written before stands (`IsStepFault`, `step_over`).
+//! - `recode` that is done has written the frames of what all messages of its input are recoded to, by
+//!   some profile (`IsRecoded`). Otherwise no profile is taken of the file, and nothing is written; or
+//!   something of the input is refused, and what can be recoded is written (`IsRecodeFault`). No contract
+//!   says that the profile is that of the file.
 //! - `graph` that is done has written the picture of a checked flow, by the language of `--dot`
 //!   (`IsDrawn`). Of a refused flow file nothing is written; after a failed write a beginning of the
 //!   picture is (`IsDrawFault`).
