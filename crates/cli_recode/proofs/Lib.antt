@@ -1,0 +1,4 @@
+mod Frames
+mod Pieces
+mod Streams
+mod Written

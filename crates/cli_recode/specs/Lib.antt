@@ -1,0 +1,9 @@
+-- `recode`.
+--
+-- `IsRecoded` says what a message is recoded to, `IsRefusal` why it is left out, `AreWritten` what is written for messages, and
+-- `IsRecodedStream` what is written for a stream.
+pub mod Conversion
+pub mod Profiles
+pub mod Progress
+pub mod Recodings
+pub mod Streams
