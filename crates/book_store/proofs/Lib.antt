@@ -5,3 +5,7 @@ pub mod MarkLemmas
 pub mod DropLemmas
 pub mod SaltLemmas
 pub mod KeyNames
+pub mod QueryLemmas
+pub mod KeptLemmas
+pub mod AlterLemmas
+pub mod SumLemmas

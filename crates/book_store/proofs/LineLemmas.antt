@@ -1,7 +1,7 @@
 -- The rows of `item` are those of the items.
 -- for: whoever reads or changes the items
-use Rattle.std.proofs.Common.{◌≡◌, ◌<ℤ◌, ℕ, ℤ, List, [], ◌∷◌, ◌++◌, map, filter, Bool, true, false, not, ◌&&◌, None, Some, drop, int_lt, int_cmp, is_lt, is_gt, is_eq, int_eq, IsTrue}
-use Rattle.std.proofs.Common.{Less, refl, sym, ap, ap₂, subst, ◌∙◌, true≢false, codes, arith, map-id}
+use Rattle.std.proofs.Common.{◌≡◌, ◌<ℤ◌, ℕ, List, [], ◌∷◌, map, true, false, not, ◌&&◌, Some, drop, IsTrue}
+use Rattle.std.proofs.Common.{Less, refl, sym, ap, subst, ◌∙◌, true≢false, codes, map-id}
 use Rattle.std.specs.List.{AllByRecursion}
 use Rattle.std.proofs.lemmas.Bool.{and_parts}
 use Rattle.std.proofs.lemmas.Int.{ints}
@@ -10,19 +10,17 @@ use Rattle.sqlite.specs.declared.types.Value.{Value}
 use Rattle.sqlite.specs.declared.types.Value.TheVariants.{Null, Int, Real, Text, Blob}
 use Rattle.sqlite_rules.specs.Edit.{id_in}
 use Rattle.sqlite_rules.proofs.TableLemmas.{int_is}
-use Rattle.sqlite_value.specs.Order.{Row, bytes, column, value_cmp}
+use Rattle.sqlite_value.specs.Order.{Row, bytes, value_cmp}
 use Rattle.sqlite_value.proofs.OrderLemmas.{value_cmp-Int}
 use Rattle.sqlite_keyed.specs.Keyed.{IsKeyedBy}
-use Rattle.sqlite_keyed.proofs.ListLemmas.{all_both, map-map}
+use Rattle.sqlite_keyed.proofs.ListLemmas.{map-map}
 use Rattle.sqlite_keyed.proofs.KeyedLemmas.{lt_from_Less}
 use Rattle.sqlite_schema.specs.Rules.{are_typed, are_present, suits, passes, has_computed, Obeys}
 use Rattle.sqlite_schema.specs.declared.schema.Kind.TheVariants as kind
 use Rattle.sqlite_schema.specs.declared.schema.Constraint.TheVariants.{Datatype, NotNull}
 use Rattle.sqlite_sql.specs.Ops.{is_null}
 use Rattle.sqlite_trees.specs.Tree.{Trees, rowid, IsTable}
-use Rattle.sqlite_trees.specs.View.{IsShaped, is_int}
-use Rattle.sqlite_trees.specs.declared.store.Shape.TheVariants.{Table}
-use Rattle.store_base.specs.Tables.{IsKept}
+use Rattle.sqlite_trees.specs.View.{is_int}
 use Rattle.book_store.specs.Lines.{Line, line_of, lines_of, row_of}
 use Rattle.store_base.specs.Columns.{needed}
 use Rattle.book_store.specs.Schema.{item, book_schema}
@@ -42,7 +40,7 @@ blob_cell name (Real x) s p = absurd (true≢false (sym s))
 blob_cell name (Text t) s p = absurd (true≢false (sym s))
 blob_cell name (Blob b) s p = refl
 
-null_cell : (v : Value) → is_null v ≡ true → v ≡ Null
+pub null_cell : (v : Value) → is_null v ≡ true → v ≡ Null
 null_cell Null h = refl
 null_cell (Int n) h = absurd (true≢false (sym h))
 null_cell (Real x) h = absurd (true≢false (sym h))

@@ -1,23 +1,21 @@
 -- What the UPDATE that marks an item makes of the table.
 -- for: statements::mark_item
-use Rattle.std.proofs.Common.{◌≡◌, ◌≢◌, ◌<ℤ◌, inl, inr, ℕ, ℤ, pos, List, [], ◌∷◌, ◌++◌, map, filter, true, false, not, Bool, cond, if◌then◌else◌, None, Ok, Err, Result}
-use Rattle.std.proofs.Common.{OnOk, int_eq, int_lt, length, arith, refl, sym, ap, ap₂, subst, ◌∙◌, true≢false}
+use Rattle.std.proofs.Common.{◌≡◌, ◌≢◌, ◌<ℤ◌, inl, inr, ℕ, ℤ, pos, List, [], ◌∷◌, ◌++◌, map, filter, true, false, Bool, cond, if◌then◌else◌, None, Ok, Err, Result}
+use Rattle.std.proofs.Common.{OnOk, int_eq, int_lt, length, arith, refl, sym, ap, ap₂, subst, ◌∙◌}
 use Rattle.std.specs.List.{AllByRecursion}
 use Rattle.std.specs.List.Sorted.{IsPermutation}
 use Rattle.std.proofs.lemmas.List.Sorted.{length_permutation}
 use Rattle.std.proofs.lemmas.List.{map-append}
 use Rattle.std.proofs.lemmas.Int.{ints}
 use Rattle.sqlite_value.specs.declared.value.Value.TheVariants.{Null, Int, Blob}
-use Rattle.sqlite_value.specs.declared.keys.Collation.TheVariants.{Binary}
 use Rattle.sqlite_value.specs.Order.{Row}
 use Rattle.sqlite_trees.proofs.TreeLemmas.{IsShaped-put_row}
-use Rattle.sqlite_trees.specs.Tree.{Trees, put_row, rowid, without_rowid, IsTable}
+use Rattle.sqlite_trees.specs.Tree.{Trees, put_row, without_rowid, IsTable}
 use Rattle.sqlite_trees.specs.View.{IsShaped}
 use Rattle.sqlite_trees.specs.declared.store.Shape.TheVariants.{Table}
 use Rattle.sqlite_sql.specs.declared.ops.CompareOp.TheVariants.{Eq}
-use Rattle.sqlite_sql.specs.Query.{Query, Output, output, page, IsAnswer, inner, end}
+use Rattle.sqlite_sql.specs.Query.{Output, output, page, IsAnswer, inner, end}
 use Rattle.sqlite_sql.specs.Program.{overlay}
-use Rattle.sqlite_schema.specs.declared.program.Program.{Program}
 use Rattle.sqlite_schema.specs.declared.command.Command.TheVariants.{Update}
 use Rattle.sqlite_schema.specs.declared.schema.Keys.TheVariants.{Enforced}
 use Rattle.sqlite_rules.specs.Cast.{cast_row}
@@ -46,23 +44,23 @@ use Rattle.store_base.proofs.StepLemmas.{steps_of}
 use Rattle.store_base.proofs.WriteLemmas.{ends_as, went, same_value}
 use Rattle.book_store.specs.Lines.{Line, has_id, lines_of, row_of, marked}
 use Rattle.book_store.specs.Schema.{item, book_schema}
-use Rattle.book_store.specs.Steps.{Edits, IsBook}
+use Rattle.book_store.specs.Steps.{Edits}
 use Rattle.book_store.specs.Texts.{mark_item_text}
 use Rattle.book_store.proofs.LineLemmas.{book_rows, lines_are, lines_rise}
-use Rattle.book_store.proofs.PutLemmas.{edits_by, low_is, high_is}
+use Rattle.book_store.proofs.PutLemmas.{low_is, high_is}
 use Rattle.book_store.proofs.TextFacts.{mark_query, mark_item_is, mark_item_plain}
 
 -- the marked item of a list that rises
 
-abbrev mark : Line → Line
+abbrev pub mark : Line → Line
 mark l = record l { reversed = pos 1 }
 
-record AreAbove (id : ℤ) (lines : List Line) : Type 0 where
-  below : filter (λ (l : Line). int_lt l.id id) lines ≡ []
-  above : filter (λ (l : Line). int_lt id l.id) lines ≡ lines
-  kept : marked id lines ≡ lines
+pub record AreAbove (id : ℤ) (lines : List Line) : Type 0 where
+  pub below : filter (λ (l : Line). int_lt l.id id) lines ≡ []
+  pub above : filter (λ (l : Line). int_lt id l.id) lines ≡ lines
+  pub kept : marked id lines ≡ lines
 
-are_above : (id : ℤ) (lines : List Line) → AllByRecursion (λ (l : Line). id <ℤ l.id) lines → AreAbove id lines
+pub are_above : (id : ℤ) (lines : List Line) → AllByRecursion (λ (l : Line). id <ℤ l.id) lines → AreAbove id lines
 are_above id [] h = record { below = refl; above = refl; kept = refl }
 are_above id (l ∷ lines) h =
     let more = are_above id lines h.1 in

@@ -5,11 +5,11 @@ use Rattle.std.proofs.Common.{OnOk, is_eq, is_lt, is_gt, int_cmp, int_eq, int_lt
 use Rattle.std.specs.List.{AllByRecursion, list_any}
 use Rattle.std.proofs.lemmas.Int.{ints}
 use Rattle.std.proofs.lemmas.List.{map-append}
-use Rattle.sqlite_value.specs.declared.value.Value.TheVariants.{Null, Int, Blob}
-use Rattle.sqlite_value.specs.Order.{Row, column, value_cmp}
+use Rattle.sqlite_value.specs.declared.value.Value.TheVariants.{Int, Blob}
+use Rattle.sqlite_value.specs.Order.{Row}
 use Rattle.sqlite_value.proofs.OrderLemmas.{value_cmp-Int}
 use Rattle.sqlite_trees.proofs.TreeLemmas.{IsShaped-put_row}
-use Rattle.sqlite_trees.specs.Tree.{Trees, put_row, rowid, has_rowid, IsTable}
+use Rattle.sqlite_trees.specs.Tree.{Trees, put_row, has_rowid, IsTable}
 use Rattle.sqlite_trees.specs.View.{IsShaped}
 use Rattle.sqlite_trees.specs.declared.store.Shape.TheVariants.{Table}
 use Rattle.sqlite_keyed.proofs.ListLemmas.{filter-map, filter_same}

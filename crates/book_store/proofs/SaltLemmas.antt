@@ -1,10 +1,9 @@
 -- The making of a book's tables, and the row of the salt.
 -- for: tables::fill
-use Rattle.std.proofs.Common.{◌≡◌, ℕ, pos, List, [], ◌∷◌, map, Ok, Err, Result, OnOk, IsTrue, false, refl, ap, subst, sym, ◌∙◌}
-use Rattle.sqlite_value.specs.declared.value.Value.TheVariants.{Null, Int, Blob}
-use Rattle.sqlite_value.specs.Order.{Row}
+use Rattle.std.proofs.Common.{◌≡◌, ℕ, pos, List, [], ◌∷◌, map, Ok, Err, Result, OnOk, refl, ap, subst, sym, ◌∙◌}
+use Rattle.sqlite_value.specs.declared.value.Value.TheVariants.{Blob}
 use Rattle.sqlite_trees.proofs.TreeLemmas.{IsShaped-put_row}
-use Rattle.sqlite_trees.specs.Tree.{Trees, put_row}
+use Rattle.sqlite_trees.specs.Tree.{put_row}
 use Rattle.sqlite_trees.specs.View.{IsShaped}
 use Rattle.sqlite_trees.specs.declared.store.Shape.TheVariants as shape
 use Rattle.sqlite_rules.specs.Cast.{cast_row}
@@ -18,7 +17,7 @@ use Rattle.store_base.proofs.CellLemmas.{cast_int, cast_null}
 use Rattle.store_base.proofs.DeleteLemmas.{HasEdited}
 use Rattle.store_base.proofs.StepLemmas.{creates, steps_of}
 use Rattle.store_base.proofs.WriteLemmas.{inserts}
-use Rattle.book_store.specs.Lines.{lines_of, line_of}
+use Rattle.book_store.specs.Lines.{line_of}
 use Rattle.book_store.specs.Schema.{salt, item, salt_schema, book_schema}
 use Rattle.book_store.specs.Steps.{PutsSalt, salt_row}
 use Rattle.book_store.specs.Making.{Filled}

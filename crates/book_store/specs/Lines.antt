@@ -1,5 +1,5 @@
 -- The items of a book as its file has them, and what is made of them.
-use Rattle.std.specs.Prelude.{◌≡◌, ℕ, ℤ, pos, Bool, not, ◌&&◌, if◌then◌else◌, int_lt, int_le, List, [], ◌∷◌, ◌++◌, map, filter}
+use Rattle.std.specs.Prelude.{ℕ, ℤ, pos, Bool, not, ◌&&◌, if◌then◌else◌, int_lt, int_le, List, [], ◌∷◌, ◌++◌, map, filter}
 use Rattle.std.specs.List.{list_any}
 use Rattle.std.specs.Ordering.{int_eq}
 use Rattle.sqlite_rules.specs.Edit.{id_in}

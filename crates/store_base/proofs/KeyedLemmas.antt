@@ -1,6 +1,6 @@
 -- A row put into a table: those below it, it, and those above it.
 -- for: the crates above
-use Rattle.std.proofs.Common.{◌≡◌, Bool, true, false, cond, not, List, [], ◌∷◌, ◌++◌, filter, Less, Equal, Greater, Ordering}
+use Rattle.std.proofs.Common.{◌≡◌, Bool, true, false, not, List, [], ◌∷◌, ◌++◌, filter, Less, Equal, Greater, Ordering}
 use Rattle.std.proofs.Common.{is_lt, is_gt, is_eq, refl, sym, ap, ◌∙◌}
 use Rattle.std.specs.List.{AllByRecursion}
 use Rattle.std.specs.Ordering.{ordering_reverse}

@@ -1,22 +1,20 @@
 -- What a SELECT over one table shows.
 -- for: the crates above
-use Rattle.std.proofs.Common.{arith, ◌≡◌, ℕ, pos, ℤ, None, List, [], ◌∷◌, Bool, false, true, IfOk, OnOk, Result, Ok, Err, map, filter, map-id, refl, sym, ap, ap₂, subst, ◌∙◌}
+use Rattle.std.proofs.Common.{◌≡◌, ℕ, pos, ℤ, None, List, [], ◌∷◌, Bool, false, IfOk, OnOk, Result, Ok, Err, map, filter, map-id, refl, sym, ap, ap₂, subst, ◌∙◌}
 use Rattle.std.specs.List.{list_all}
 use Rattle.std.specs.Prelude.{Vec}
 use Rattle.std.specs.declared.alloc.Global.{Global}
 use Rattle.sqlite.specs.Listing.{understood, reads_listing}
-use Rattle.sqlite.specs.State.{State, Shown, HasCleanDisk, Survives, CommitsShowing, IsUnchanged}
+use Rattle.sqlite.specs.State.{State, Shown, Survives, CommitsShowing, IsUnchanged}
 use Rattle.sqlite.specs.declared.types.Value.TheVariants.{Null, Int}
-use Rattle.sqlite.proofs.Callers.{unchanged_then, reads_as, IsPlain, command_of, never_commits}
-use Rattle.sqlite.proofs.StateLemmas.{survives_weaker, survives_then}
+use Rattle.sqlite.proofs.Callers.{reads_as, IsPlain, command_of, never_commits}
+use Rattle.sqlite.proofs.StateLemmas.{survives_weaker}
 use Rattle.sqlite_schema.specs.declared.schema.Schema.{Schema}
 use Rattle.sqlite_schema.specs.declared.command.Command.TheVariants.{Select}
 use Rattle.sqlite_sql.specs.Program.{overlay}
 use Rattle.sqlite_sql.specs.Query.{Query, inner, end, page, IsAnswer}
 use Rattle.sqlite_sql.specs.Term.{Term, col, lit, eval_all, holds}
 use Rattle.sqlite_trees.specs.Tree.{Trees}
-use Rattle.sqlite_trees.specs.View.{IsShaped}
-use Rattle.sqlite_trees.specs.declared.store.Shape.TheVariants.{Table}
 use Rattle.sqlite_typed.proofs.AnswerLemmas.{Source, last_table, at_end, answer_by_keys}
 use Rattle.sqlite_keyed.specs.Keyed.{IsKeyedBy}
 use Rattle.sqlite_value.specs.Order.{Row, column, value_cmp}

@@ -14,7 +14,9 @@
 #![tactic(auto)]
 
 mod again;
+mod cells;
 mod layout;
 
 pub use again::reread;
+pub use cells::{first_int, int_at, last_int};
 pub use layout::{is_empty, is_keyed, is_needed, is_unique_index};
