@@ -25,7 +25,8 @@ count_listed (r ∷ rows) (t ∷ ts) h = let rest = count_listed rows ts h.1 in 
 
 not_empty : (db : Trees) → IsSound book_schema db → IsSound no_schema db → ⊥
 not_empty db a b =
-    let same : 2 ≡ 0 = sym (count_listed _ book_schema.tables a.lists.listed.tables) ∙ count_listed _ no_schema.tables b.lists.listed.tables in omega (arith, same)
+    let same : 2 ≡ 0 = sym (count_listed _ book_schema.tables a.lists.listed.tables) ∙ count_listed _ no_schema.tables b.lists.listed.tables in omega
+    (arith, same)
 
 pub book_sound : (d : Database) → IsBook d → IsSound book_schema d.trees
 book_sound d b = subst (λ (s : Schema). IsSound s d.trees) b.schema_is b.sound
@@ -39,7 +40,8 @@ opens_empty salt db t none (inl o) = absurd (not_empty db o.0 none)
 opens_empty salt db t none (inr o) = o.1
 
 -- from the last commit an open makes the tables as they are now
-pub opens_kept : (salt : List ℕ) (now committed : Database) (db : Trees) (t : Tables) → IsBook now → committed ≡ now → db ≡ committed.trees → OpensAs salt db t →
+pub opens_kept : (salt : List ℕ) (now committed : Database) (db : Trees) (t : Tables) → IsBook now → committed ≡ now → db ≡ committed.trees → OpensAs salt
+    db t →
     t ≡ tables_of now.trees
 opens_kept salt now committed db t b same is o =
     let there : db ≡ now.trees = is ∙ ap (λ (d : Database). d.trees) same in

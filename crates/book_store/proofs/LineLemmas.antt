@@ -65,10 +65,15 @@ is_row (a ∷ b ∷ c ∷ d ∷ e ∷ f ∷ []) i t p =
     let p₄ = and_parts (not (is_null e)) ((not (is_null f)) && (false)) p₃.1 in
     absurd (true≢false (sym (and_parts (not (is_null f)) false p₄.1).1))
 is_row (a ∷ b ∷ c ∷ d ∷ e ∷ f ∷ g ∷ h ∷ rest) i t p =
-    let t₁ = and_parts (is_null b) ((suits (needed (codes "card") kind.Blob) c) && ((suits (needed (codes "request") kind.Blob) d) && ((suits (needed (codes "amount") kind.Integer) e) && ((suits (needed (codes "day") kind.Integer) f) && ((suits (needed (codes "reversed") kind.Integer) g) && (false)))))) t in
-    let t₂ = and_parts (suits (needed (codes "card") kind.Blob) c) ((suits (needed (codes "request") kind.Blob) d) && ((suits (needed (codes "amount") kind.Integer) e) && ((suits (needed (codes "day") kind.Integer) f) && ((suits (needed (codes "reversed") kind.Integer) g) && (false))))) t₁.1 in
-    let t₃ = and_parts (suits (needed (codes "request") kind.Blob) d) ((suits (needed (codes "amount") kind.Integer) e) && ((suits (needed (codes "day") kind.Integer) f) && ((suits (needed (codes "reversed") kind.Integer) g) && (false)))) t₂.1 in
-    let t₄ = and_parts (suits (needed (codes "amount") kind.Integer) e) ((suits (needed (codes "day") kind.Integer) f) && ((suits (needed (codes "reversed") kind.Integer) g) && (false))) t₃.1 in
+    let t₁ = and_parts (is_null b) ((suits (needed (codes "card") kind.Blob) c) && ((suits (needed (codes "request") kind.Blob) d) && ((suits (needed
+    (codes "amount") kind.Integer) e) && ((suits (needed (codes "day") kind.Integer) f) && ((suits (needed (codes "reversed") kind.Integer) g) &&
+    (false)))))) t in
+    let t₂ = and_parts (suits (needed (codes "card") kind.Blob) c) ((suits (needed (codes "request") kind.Blob) d) && ((suits (needed (codes "amount")
+    kind.Integer) e) && ((suits (needed (codes "day") kind.Integer) f) && ((suits (needed (codes "reversed") kind.Integer) g) && (false))))) t₁.1 in
+    let t₃ = and_parts (suits (needed (codes "request") kind.Blob) d) ((suits (needed (codes "amount") kind.Integer) e) && ((suits (needed (codes "day")
+    kind.Integer) f) && ((suits (needed (codes "reversed") kind.Integer) g) && (false)))) t₂.1 in
+    let t₄ = and_parts (suits (needed (codes "amount") kind.Integer) e) ((suits (needed (codes "day") kind.Integer) f) && ((suits (needed (codes
+    "reversed") kind.Integer) g) && (false))) t₃.1 in
     let t₅ = and_parts (suits (needed (codes "day") kind.Integer) f) ((suits (needed (codes "reversed") kind.Integer) g) && (false)) t₄.1 in
     absurd (true≢false (sym (and_parts (suits (needed (codes "reversed") kind.Integer) g) false t₅.1).1))
 is_row (a ∷ b ∷ c ∷ d ∷ e ∷ f ∷ g ∷ []) int t p =
@@ -92,7 +97,8 @@ is_row (a ∷ b ∷ c ∷ d ∷ e ∷ f ∷ g ∷ []) int t p =
     let eg = int_cell (codes "reversed") g t₆.0 p₆.0 in
     λ i. ea i ∷ eb i ∷ ec i ∷ ed i ∷ ee i ∷ ef i ∷ eg i ∷ []
 
-are_rows : (rows : List Row) → AllByRecursion (λ r. IsTrue (is_int (rowid r))) rows → AllByRecursion (λ r. passes Datatype book_schema (λ _. []) item r ≡ true) rows
+are_rows : (rows : List Row) → AllByRecursion (λ r. IsTrue (is_int (rowid r))) rows → AllByRecursion (λ r. passes Datatype book_schema (λ _. []) item r ≡
+    true) rows
     → AllByRecursion (λ r. passes NotNull book_schema (λ _. []) item r ≡ true) rows → rows ≡ map row_of (map line_of rows)
 are_rows [] ints typed present = refl
 are_rows (r ∷ rows) ints typed present =

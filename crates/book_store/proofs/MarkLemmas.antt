@@ -1,6 +1,7 @@
 -- What the UPDATE that marks an item makes of the table.
 -- for: statements::mark_item
-use Rattle.std.proofs.Common.{◌≡◌, ◌≢◌, ◌<ℤ◌, inl, inr, ℕ, ℤ, pos, List, [], ◌∷◌, ◌++◌, map, filter, true, false, Bool, cond, if◌then◌else◌, None, Ok, Err, Result}
+use Rattle.std.proofs.Common.{◌≡◌, ◌≢◌, ◌<ℤ◌, inl, inr, ℕ, ℤ, pos, List, [], ◌∷◌, ◌++◌, map, filter, true, false, Bool, cond, if◌then◌else◌, None, Ok, Err}
+use Rattle.std.proofs.Common.{Result}
 use Rattle.std.proofs.Common.{OnOk, int_eq, int_lt, length, arith, refl, sym, ap, ap₂, subst, ◌∙◌}
 use Rattle.std.specs.List.{AllByRecursion}
 use Rattle.std.specs.List.Sorted.{IsPermutation}
@@ -156,7 +157,8 @@ module _ (id : ℤ) where
       go true is more = absurd (let e : l ∷ filter (has_id id) lines ≡ [] = sym (ap These is) ∙ h in cc)
       go false is more = λ i. (ap (λ b. if b then mark l else l) is) i ∷ more (sym (ap These is) ∙ h) i
 
-  module _ (db : Trees) (lines : List Line) (stored : db 1 ≡ map row_of lines) (rise : IsKeyedBy (λ (l : Line). l.id) lines) (shaped : IsShaped Table (db 1)) where
+  module _ (db : Trees) (lines : List Line) (stored : db 1 ≡ map row_of lines) (rise : IsKeyedBy (λ (l : Line). l.id) lines) (shaped : IsShaped Table (db
+      1)) where
     abbrev source : Source (overlay db []) (inner 1 end) Line
     source = last_table (overlay db []) 1 row_of (λ (l : Line). l.id) lines stored rise (at_end (overlay db []))
 
@@ -257,4 +259,5 @@ marks_item old next id (Ok count) ready h =
       lines = lines_are next.now.trees (marked id lines) rows;
       salt = others.0 (λ e. let never : 0 ≡ 1 = e in cc);
     } in
-    steps_of book_schema 1 (λ r. next.now.trees 1) (Edits (marked id)) old next (λ r s. subst (λ (d : Trees). IsShaped Table (d 1)) (sym now) it.shaped) made ready shaped edit h.1.mode h.1.committed_is h.1.is_open
+    steps_of book_schema 1 (λ r. next.now.trees 1) (Edits (marked id)) old next (λ r s. subst (λ (d : Trees). IsShaped Table (d 1)) (sym now) it.shaped)
+    made ready shaped edit h.1.mode h.1.committed_is h.1.is_open

@@ -1,6 +1,7 @@
 -- What putting an item, unless its id is there, makes of the table.
 -- for: statements::put_item
-use Rattle.std.proofs.Common.{◌≡◌, ◌≢◌, inl, inr, ℕ, ℤ, pos, List, [], ◌∷◌, ◌++◌, map, filter, true, false, Bool, if◌then◌else◌, Option, Some, None, Ok, Err, Result}
+use Rattle.std.proofs.Common.{◌≡◌, ◌≢◌, inl, inr, ℕ, ℤ, pos, List, [], ◌∷◌, ◌++◌, map, filter, true, false, Bool, if◌then◌else◌, Option, Some, None, Ok}
+use Rattle.std.proofs.Common.{Err, Result}
 use Rattle.std.proofs.Common.{OnOk, is_eq, is_lt, is_gt, int_cmp, int_eq, int_lt, Greater, refl, sym, ap, ap₂, subst, ◌∙◌, arith}
 use Rattle.std.specs.List.{AllByRecursion, list_any}
 use Rattle.std.proofs.lemmas.Int.{ints}

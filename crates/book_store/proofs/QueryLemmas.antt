@@ -1,7 +1,9 @@
 -- What the queries show.
 -- for: reading::all_salt and the other queries
-use Rattle.std.proofs.Common.{◌≡◌, ℕ, ◌-◌, ℤ, pos, negsuc, List, [], ◌∷◌, map, filter, take, drop, get_or, length, slice_get, true, false, Bool, ◌&&◌, if◌then◌else◌}
-use Rattle.std.proofs.Common.{Option, Some, None, option_map, option_and_then, IfOk, Result, codes, int_eq, int_le, int_lt, int_cmp, ◌+ℤ◌, map-id, refl, sym, ap, ap₂, subst}
+use Rattle.std.proofs.Common.{◌≡◌, ℕ, ◌-◌, ℤ, pos, negsuc, List, [], ◌∷◌, map, filter, take, drop, get_or, length, slice_get, true, false, Bool, ◌&&◌}
+use Rattle.std.proofs.Common.{if◌then◌else◌}
+use Rattle.std.proofs.Common.{Option, Some, None, option_map, option_and_then, IfOk, Result, codes, int_eq, int_le, int_lt, int_cmp, ◌+ℤ◌, map-id, refl}
+use Rattle.std.proofs.Common.{sym, ap, ap₂, subst}
 use Rattle.std.proofs.Common.{◌∙◌, true≢false}
 use Rattle.std.specs.List.{AllByRecursion, list_all}
 use Rattle.std.specs.Ordering.{ordering_then}
@@ -34,7 +36,8 @@ use Rattle.store_base.proofs.CellLemmas.{and_true}
 use Rattle.store_base.proofs.ReadLemmas.{by_rowid, by_rowids, shows}
 use Rattle.store_base.proofs.StoredRows.{Pair, split, whole, key, stored_rows, rising_rows}
 use Rattle.book_store.specs.Lines.{Line, lines_of, row_of}
-use Rattle.book_store.specs.Queries.{IsSaltOf, IsSaltShown, day_cmp, days_from, first_day, firsts, last_id, last_of, of_day, of_request, open_id, shown_day, shown_id}
+use Rattle.book_store.specs.Queries.{IsSaltOf, IsSaltShown, day_cmp, days_from, first_day, firsts, last_id, last_of, of_day, of_request, open_id}
+use Rattle.book_store.specs.Queries.{shown_day, shown_id}
 use Rattle.book_store.specs.Queries.{counts, counts_in, next_lines, shown_line, shown_mark, shown_salt, used, used_in}
 use Rattle.book_store.specs.Schema.{book_schema, salt}
 use Rattle.book_store.specs.Steps.{IsBook, salt_row}
@@ -119,10 +122,12 @@ module _ (old new : State) (book : IsBook old.now) where
       → (rows : List Row) → IsAnswer (by_rowid 1 terms columns limit) (overlay old.now.trees []) params rows
       → rows ≡ page (by_rowid 1 terms columns limit) params (map show (filter P lines))
   of_lines params terms P tests columns limit show shown rows a =
-      by_rowids old.now.trees 1 row_of (λ (l : Line). l.id) lines stored_lines (lines_rise old.now book) (λ l. refl) params terms P tests columns limit show shown
+      by_rowids old.now.trees 1 row_of (λ (l : Line). l.id) lines stored_lines (lines_rise old.now book) (λ l. refl) params terms P tests columns limit
+      show shown
       rows a
 
-  pub reads_request : {E : Type 0} (request : List ℕ) (r : Result (Vec Row Global) E) → IfOk r (λ rows. Shown of_request_text (Blob request ∷ []) old new rows.items)
+  pub reads_request : {E : Type 0} (request : List ℕ) (r : Result (Vec Row Global) E) → IfOk r (λ rows. Shown of_request_text (Blob request ∷ []) old new
+      rows.items)
       → IfOk r (λ rows. rows.items ≡ map shown_mark (of_request request lines))
   reads_request request r h = shows book_schema of_request_text request_query request_names of_request_asks old new book.schema_is (Blob request ∷ []) r
       (λ rows. rows ≡ map shown_mark (of_request request lines))
@@ -150,7 +155,8 @@ module _ (old new : State) (book : IsBook old.now) where
           let from_all : Source (overlay old.now.trees []) (inner 1 end) Line = last_table (overlay old.now.trees []) 1 row_of (λ (l : Line). l.id) lines
           stored_lines (lines_rise old.now book) (at_end (overlay old.now.trees [])) in
           let all : map (λ r. r) rows ≡ page day_query (Int from ∷ []) (map shown_day (sort_by day_cmp (filter (λ (l : Line). int_le from l.day) lines))) =
-          answer_sorted day_query (overlay old.now.trees []) (Int from ∷ []) from_all (λ (l : Line). int_le from l.day) tests (λ r. r) shown_day (λ l. refl) refl refl
+          answer_sorted day_query (overlay old.now.trees []) (Int from ∷ []) from_all (λ (l : Line). int_le from l.day) tests (λ r. r) shown_day (λ l.
+          refl) refl refl
           day_cmp (λ x y less. no_tie_after (int_cmp x.day y.day) (no_tie less))
           (λ x y. ap₂ ordering_then (value_cmp-Int x.day y.day) (then-Equal _ ∙ value_cmp-Int x.id y.id)) rows a in
           sym (map-id rows) ∙ all
@@ -169,7 +175,8 @@ module _ (old new : State) (book : IsBook old.now) where
   summed (l ∷ xs) = ap (λ n. l.amount +ℤ n) (summed xs)
 
   abbrev all_lines : Source (overlay old.now.trees []) (inner 1 end) Line
-  all_lines = last_table (overlay old.now.trees []) 1 row_of (λ (l : Line). l.id) lines stored_lines (lines_rise old.now book) (at_end (overlay old.now.trees []))
+  all_lines = last_table (overlay old.now.trees []) 1 row_of (λ (l : Line). l.id) lines stored_lines (lines_rise old.now book) (at_end (overlay
+      old.now.trees []))
 
   pub reads_used : {E : Type 0} (card : List ℕ) (day : ℤ) (r : Result (Vec Row Global) E)
       → IfOk r (λ rows. Shown used_text (Blob card ∷ Int day ∷ []) old new rows.items)

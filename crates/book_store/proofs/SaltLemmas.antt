@@ -50,7 +50,8 @@ adds_salt old new bytes (Ok count) ready h =
       others = put.others;
     } in
     let made : PutsSalt bytes old.now.trees new.now.trees = record { salt = edit.rows; rows = edit.others.1.0 (λ e. let never : 1 ≡ 0 = e in cc) } in
-    steps_of book_schema 0 f (PutsSalt bytes) old new (λ rows s. IsShaped-put_row source rows refl s) made ready shaped edit h.1.mode h.1.committed_is h.1.is_open
+    steps_of book_schema 0 f (PutsSalt bytes) old new (λ rows s. IsShaped-put_row source rows refl s) made ready shaped edit h.1.mode h.1.committed_is
+    h.1.is_open
 
 -- tables that were made are ready to be filled
 pub made_ready : (old new : State) → Makes book_schema old new → IsReady book_schema new

@@ -1,7 +1,9 @@
 -- What putting, reversing and forgetting make of the sums.
 -- for: the laws
-use Rattle.std.proofs.Common.{◌≡◌, ◌<ℤ◌, ◌≤ℤ◌, ◌+ℤ◌, inl, inr, ℕ, ◌-◌, ℤ, pos, List, [], ◌∷◌, ◌++◌, filter, length, slice_get, true, false, not, Bool, cond, ◌&&◌, ◌||◌}
-use Rattle.std.proofs.Common.{if◌then◌else◌, Option, Some, None, option_and_then, int_eq, int_lt, int_le, is_eq, arith, refl, sym, ap, ap₂, subst, ◌∙◌, true≢false}
+use Rattle.std.proofs.Common.{◌≡◌, ◌<ℤ◌, ◌≤ℤ◌, ◌+ℤ◌, inl, inr, ℕ, ◌-◌, ℤ, pos, List, [], ◌∷◌, ◌++◌, filter, length, slice_get, true, false, not, Bool}
+use Rattle.std.proofs.Common.{cond, ◌&&◌, ◌||◌}
+use Rattle.std.proofs.Common.{if◌then◌else◌, Option, Some, None, option_and_then, int_eq, int_lt, int_le, is_eq, arith, refl, sym, ap, ap₂, subst, ◌∙◌}
+use Rattle.std.proofs.Common.{true≢false}
 use Rattle.std.specs.List.{AllByRecursion, list_any}
 use Rattle.std.proofs.lemmas.Int.{ints}
 use Rattle.sqlite_keyed.specs.Keyed.{IsKeyedBy}
@@ -58,7 +60,8 @@ module _ (card : List ℕ) (day : ℤ) where
       Upper : Bool → List Line
       Upper b = cond b (l ∷ over id ls) (over id ls)
 
-      go : (list_any (has_id id) ls ≡ false → sum (below id ls) +ℤ sum (over id ls) ≡ sum ls) → (e : Bool) → int_eq l.id id ≡ e → (b : Bool) → int_lt l.id id ≡ b
+      go : (list_any (has_id id) ls ≡ false → sum (below id ls) +ℤ sum (over id ls) ≡ sum ls) → (e : Bool) → int_eq l.id id ≡ e → (b : Bool) → int_lt l.id
+          id ≡ b
           → sum (below id (l ∷ ls)) +ℤ sum (over id (l ∷ ls)) ≡ sum (l ∷ ls)
       go rest true same b lower = absurd (true≢false (sym (ap (λ x. x || list_any (has_id id) ls) same) ∙ h))
       go rest false apart true lower =
@@ -164,7 +167,8 @@ passed_has {A} p (y ∷ xs) x h = go (p y) h (passed_has p xs x)
 pub reversal_sums : ReversalTakes
 reversal_sums = record {
   takes = λ card day request l lines rise last unmarked.
-      let there = passed_has (λ (m : Line). bytes_eq m.request request) lines l (last_has (of_request request lines) (length (of_request request lines) - 1) l last) in
+      let there = passed_has (λ (m : Line). bytes_eq m.request request) lines l (last_has (of_request request lines) (length (of_request request lines) -
+      1) l last) in
       let id : open_id (of_request request lines) ≡ Some l.id =
       ap (option_and_then (λ (m : Line). if int_eq m.reversed (pos 0) then Some m.id else None)) last
       ∙ ap (λ n. if int_eq n (pos 0) then Some l.id else None) unmarked in

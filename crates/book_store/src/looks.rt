@@ -1,6 +1,7 @@
 //! Calls of a book's file that only read.
 
-ghost use Rattle.std.specs.Prelude.{◌≡◌, ◌≤◌, ℕ, List, Err, IfErr, IfOk, IsTrue, OnErr, OnOk, false, map};
+ghost use Rattle.std.specs.Prelude.{◌≡◌, ◌≤◌, ℕ, List, Err, IfErr, IfOk, IsTrue, OnErr, OnOk};
+ghost use Rattle.std.specs.Prelude.{false, map};
 ghost use Rattle.std.specs.Prelude.{true};
 ghost use Rattle.sqlite_trees.specs.View.{doubt};
 ghost use Rattle.book_store.specs.Kept.{IsCleanBook, Tables, book};

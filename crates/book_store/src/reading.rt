@@ -1,12 +1,15 @@
 //! The queries, and what their rows say.
 
-ghost use Rattle.std.specs.Prelude.{◌≡◌, ◌≢◌, ◌∷◌, [], ℕ, List, pos, false, map, take, IfNone, IfSome};
+ghost use Rattle.std.specs.Prelude.{◌≡◌, ◌≢◌, ◌∷◌, [], ℕ, List, pos, false, map, take, IfNone};
+ghost use Rattle.std.specs.Prelude.{IfSome};
 ghost use Rattle.sqlite.specs.declared.types.Value.TheVariants.{Blob, Int};
 ghost use Rattle.sqlite.specs.Held.{state};
 ghost use Rattle.store_base.specs.Tables.{OnlyReads};
 ghost use Rattle.book_store.specs.Queries.{ChangesNothing, IsKnownSalt, IsSaltShown, ShowsRows};
-ghost use Rattle.book_store.specs.Queries.{Finds, days_from, firsts, first_day, last_id, of_day, of_request};
-ghost use Rattle.book_store.specs.Queries.{next_lines, open_id, shown_day, shown_id, shown_line, shown_mark, shown_salt};
+ghost use Rattle.book_store.specs.Queries.{Finds, days_from, firsts, first_day, last_id, of_day};
+ghost use Rattle.book_store.specs.Queries.{of_request};
+ghost use Rattle.book_store.specs.Queries.{next_lines, open_id, shown_day, shown_id, shown_line};
+ghost use Rattle.book_store.specs.Queries.{shown_mark, shown_salt};
 ghost use Rattle.book_store.specs.Queries.{used, used_in};
 ghost use Rattle.book_store.specs.Lines.{Line, lines_of};
 ghost use Rattle.book_store.specs.Schema.{book_schema};

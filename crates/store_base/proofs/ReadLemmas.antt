@@ -1,6 +1,7 @@
 -- What a SELECT over one table shows.
 -- for: the crates above
-use Rattle.std.proofs.Common.{◌≡◌, ℕ, pos, ℤ, None, List, [], ◌∷◌, Bool, false, IfOk, OnOk, Result, Ok, Err, map, filter, map-id, refl, sym, ap, ap₂, subst, ◌∙◌}
+use Rattle.std.proofs.Common.{◌≡◌, ℕ, pos, ℤ, None, List, [], ◌∷◌, Bool, false, IfOk, OnOk, Result, Ok, Err, map, filter, map-id, refl, sym, ap, ap₂}
+use Rattle.std.proofs.Common.{subst, ◌∙◌}
 use Rattle.std.specs.List.{list_all}
 use Rattle.std.specs.Prelude.{Vec}
 use Rattle.std.specs.declared.alloc.Global.{Global}
@@ -62,7 +63,8 @@ module _ {X : Type 0} (trees : Trees) (tree : ℕ) (encode : X → Row) (key : X
 -- what a text that is known shows
 module _ (schema : Schema) (sql : List ℕ) (q : Query) (names : List (List ℕ)) (asks : Asks schema sql q names) (old new : State) (has : old.now.schema ≡ schema)
     (params : Row) where
-  pub shows : {E : Type 0} (r : Result (Vec Row Global) E) (P : List Row → Type 0) → ((rows : List Row) → IsAnswer q (overlay old.now.trees []) params rows → P rows)
+  pub shows : {E : Type 0} (r : Result (Vec Row Global) E) (P : List Row → Type 0) → ((rows : List Row) → IsAnswer q (overlay old.now.trees []) params
+      rows → P rows)
       → IfOk r (λ rows. Shown sql params old new rows.items)
       → IfOk r (λ rows. P rows.items)
   shows (Err e) P give h = tt

@@ -1,6 +1,7 @@
 -- The row of a table that has a rowid.
 -- for: the crates above
-use Rattle.std.proofs.Common.{arith, ◌≡◌, ◌⊎◌, inl, inr, ◌<ℤ◌, ℤ, List, [], ◌∷◌, map, filter, Bool, true, false, cond, int_eq, int_cmp, is_eq, Equal, IsTrue, refl, sym, ap, subst, ◌∙◌}
+use Rattle.std.proofs.Common.{arith, ◌≡◌, ◌⊎◌, inl, inr, ◌<ℤ◌, ℤ, List, [], ◌∷◌, map, filter, Bool, true, false, cond, int_eq, int_cmp, is_eq, Equal}
+use Rattle.std.proofs.Common.{IsTrue, refl, sym, ap, subst, ◌∙◌}
 use Rattle.std.specs.List.{AllByRecursion}
 use Rattle.std.proofs.lemmas.Int.{ints}
 use Rattle.sqlite_trees.proofs.TreeLemmas.{not_true}

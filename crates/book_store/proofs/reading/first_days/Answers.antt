@@ -14,7 +14,8 @@ returns-clause-rows g c clean ready = reads_days (state g.S.Store c.args.conn.no
 
 pub returns-clause-same : goal.returns-clause-same
 returns-clause-same g c clean ready = same_if book_schema first_day_text day_query day_names first_day_asks (state g.S.Store c.args.conn.now)
-    (state g.S.Store c.query_all.new.self) ready.schema_is (Int c.args.from ∷ []) c.query_all.result (rw (to_z-of_z c.ranges.from) at (c.query_all.ensures.ok clean))
+    (state g.S.Store c.query_all.new.self) ready.schema_is (Int c.args.from ∷ []) c.query_all.result (rw (to_z-of_z c.ranges.from) at
+    (c.query_all.ensures.ok clean))
 
 pub returns-clause-survives : goal.returns-clause-survives
 returns-clause-survives g c = only_reads book_schema first_day_text first_day_asks.plain (Int c.args.from ∷ []) (state g.S.Store c.args.conn.now)

@@ -9,7 +9,8 @@ use Rattle.book_store.proofs.TextFacts.{of_request_asks, request_names, request_
 use Rattle.book_store.proofs.reading.of_request.Goals as goal
 
 pub returns-clause-rows : goal.returns-clause-rows
-returns-clause-rows g c clean ready = reads_request (state g.S.Store c.args.conn.now) (state g.S.Store c.query_all.new.self) ready c.args.request.now c.query_all.result
+returns-clause-rows g c clean ready = reads_request (state g.S.Store c.args.conn.now) (state g.S.Store c.query_all.new.self) ready c.args.request.now
+    c.query_all.result
     (c.query_all.ensures.ok clean)
 
 pub returns-clause-same : goal.returns-clause-same

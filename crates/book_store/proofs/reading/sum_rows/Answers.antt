@@ -14,7 +14,8 @@ returns-clause-rows g c clean ready = reads_sum (state g.S.Store c.args.conn.now
 
 pub returns-clause-same : goal.returns-clause-same
 returns-clause-same g c clean ready = same_if book_schema sum_text sum_query sum_names sum_asks (state g.S.Store c.args.conn.now)
-    (state g.S.Store c.query_all.new.self) ready.schema_is (Int c.args.day ∷ []) c.query_all.result (rw (to_z-of_z c.ranges.day) at (c.query_all.ensures.ok clean))
+    (state g.S.Store c.query_all.new.self) ready.schema_is (Int c.args.day ∷ []) c.query_all.result (rw (to_z-of_z c.ranges.day) at
+    (c.query_all.ensures.ok clean))
 
 pub returns-clause-survives : goal.returns-clause-survives
 returns-clause-survives g c = only_reads book_schema sum_text sum_asks.plain (Int c.args.day ∷ []) (state g.S.Store c.args.conn.now)

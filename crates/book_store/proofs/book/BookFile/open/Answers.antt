@@ -92,5 +92,6 @@ returns-in-Err-make_book-clause-again g c clean fine t u is left =
     elim (c.make_book.ensures.crash.crash clean left.0 left.1) [
       | inl was ↦ opens_again c.args.salt.now _ _ t u (g.met.S.Store.settled c.args.conn.store left.0 fine (c.in-Ok.ensures.same early left.0 was)) is left.2
       | inr made ↦ (let there = made schema in
-          opens_book c.args.salt.now left.0 u there.0 left.2 ∙ new_is c.as_slice.result.now left.0 there.1 ∙ ap new_tables c.as_slice.ensures ∙ sym (opens_empty c.args.salt.now _ t none is))
+          opens_book c.args.salt.now left.0 u there.0 left.2 ∙ new_is c.as_slice.result.now left.0 there.1 ∙ ap new_tables c.as_slice.ensures ∙ sym
+          (opens_empty c.args.salt.now _ t none is))
     ]
