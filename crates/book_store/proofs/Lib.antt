@@ -1,0 +1,11 @@
+pub mod TextFacts
+pub mod LineLemmas
+pub mod PutLemmas
+pub mod MarkLemmas
+pub mod DropLemmas
+pub mod SaltLemmas
+pub mod KeyNames
+pub mod QueryLemmas
+pub mod KeptLemmas
+pub mod AlterLemmas
+pub mod SumLemmas

@@ -1,0 +1,11 @@
+pub mod Schema
+pub mod Texts
+pub mod Lines
+pub mod Items
+pub mod Steps
+pub mod Making
+pub mod Queries
+pub mod Changes
+pub mod Kept
+pub mod Left
+pub mod Sums

@@ -1,0 +1,10 @@
+pub mod StoredRows
+pub mod WriteLemmas
+pub mod DeleteLemmas
+pub mod CreateLemmas
+pub mod StepLemmas
+pub mod RestLemmas
+pub mod ReadLemmas
+pub mod KeyedLemmas
+pub mod RowidLemmas
+pub mod CellLemmas

@@ -1,0 +1,4 @@
+pub mod Tables
+pub mod Making
+pub mod Rest
+pub mod Columns

@@ -1,0 +1,4 @@
+mod calls;
+mod cuts;
+mod disks;
+mod helpers;
