@@ -1,6 +1,6 @@
 -- What a run is set up with: the options of the command line come first, then the configuration, then the program's own values.
 --
--- `setup_of` is what a run is set up with, by its options and its configuration: book, routes,
+-- `setup_of` is what a run is set up with, by its options and its configuration: limit, routes,
 -- links, the stand-in's amount, advices between two reads, sessions, threads. `IsSetUp` says that
 -- a run is set up so, with a limit that a book may have.
 use Rattle.std.specs.Prelude.{◌≡◌, ◌<◌, ◌≤◌, ⊤, ℕ, Bool, true, false, ◌||◌, List, [], ◌∷◌, map, Option, Some, None, is_some, unwrap_or, if◌then◌else◌, codes}
@@ -16,7 +16,6 @@ use Rattle.cli_options.specs.CommandLine.{text_of}
 use Rattle.cli_options.specs.declared.choice.RunOptions.{RunOptions}
 use Rattle.run_responses.specs.declared.sink.ResponseOrder.{ResponseOrder}
 use Rattle.run_responses.specs.declared.sink.ResponseOrder.TheVariants.{ByEnd, ById}
-use Rattle.sw_book.specs.Items.{PlainBook}
 use Rattle.sw_hosts.specs.declared.issuer_link.IssuerLink.{IssuerLink}
 use Rattle.run_switch.specs.Links.{switch_routes}
 use Rattle.run_switch.specs.declared.setup.Setup.{Setup}
@@ -108,7 +107,7 @@ queries_of c = option_map_or (map host_query) c.hosts own_queries
 
 -- what contracts see of what a run is set up with: of each query and link its host's name and its state
 pub record PlainSetup : Type 0 where
-  pub book : PlainBook
+  pub limit : ℕ
   pub stand_in : ℕ
   pub routes : List Routing
   pub queried : LinkStates
@@ -122,7 +121,7 @@ pub record PlainSetup : Type 0 where
 
 abbrev pub plain_setup : {C : Type 0} → Setup (IssuerLink C) → PlainSetup
 plain_setup s = record {
-  book = s.book;
+  limit = s.limit;
   stand_in = s.stand_in;
   routes = s.routes;
   queried = map named_state s.queried.items;
@@ -134,12 +133,12 @@ plain_setup s = record {
   timed = is_some s.timed;
 }
 
--- By options and a configuration: a new book, which may have its limit and has nothing in it; the routes; for each host a link
+-- By options and a configuration: what a card may spend; the routes; for each host a link
 -- that authorizations go over, and one that stored advices go over; how many advices are sent between two reads; how many
 -- bytes a header has; and how many sessions there are, as threads or not.
 abbrev pub setup_of : RunOptions → Config → PlainSetup
 setup_of o c = record {
-  book = record { limit = limit_of o c; items = [] };
+  limit = limit_of o c;
   stand_in = stand_in_of c;
   routes = routes_of c;
   queried = queries_of c;
@@ -162,7 +161,7 @@ unasked_of c = option_map_or (map unasked) c.hosts own_queries
 -- a recovery: the same participants, which are asked nothing, and one session
 abbrev pub recovery_of : Config → PlainSetup
 recovery_of c = record {
-  book = record { limit = 10000; items = [] };
+  limit = 10000;
   stand_in = stand_in_of c;
   routes = routes_of c;
   queried = unasked_of c;

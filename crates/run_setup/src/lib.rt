@@ -3,7 +3,7 @@
 //!
 //! - [`config_at`] reads the configuration file that an option names; without the option, the configuration states
 //!   nothing.
-//! - [`setup`] makes the book, the routes and the links of a run. A host that is reached by streams gets threads of its
+//! - [`setup`] makes the routes and the links of a run. A host that is reached by streams gets threads of its
 //!   own, which open nothing before the first message is sent.
 //! - [`recovery`] makes what a recovery needs: the same participants, over links that nothing is sent on.
 //! - [`simulated`] is what `step --switch` has: the switch's own limits and routes.
@@ -15,8 +15,8 @@
 //!
 //! `setup` gives what a run is set up with (`setup_of`). For limit, sessions and threads the options of
 //! the command line come first, then the configuration, then the program's own; for routes, hosts,
-//! stand-in and the advices between two reads the configuration, then the program's own. A new book has
-//! that limit, at most 999,999,999,999,999 minor units, and nothing in it. Each host has a link for
+//! stand-in and the advices between two reads the configuration, then the program's own. The limit is at
+//! most 999,999,999,999,999 minor units. Each host has a link for
 //! queries and one for advices: to a new simulated issuer, to a silent one, or to the host's threads,
 //! of which contracts know nothing. A limit over the greatest is `BadLimit`. `recovery` gives the same
 //! routes, stand-in and names of participants, over links that nothing is sent on (`recovery_of`).

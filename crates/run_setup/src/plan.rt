@@ -1,6 +1,6 @@
 //! What a run is set up with.
 
-ghost use Rattle.std.specs.Prelude.{◌≡◌, ◌<◌, ◌≤◌, [], Err, IfErr, IfOk, OnOk, is_some};
+ghost use Rattle.std.specs.Prelude.{◌≡◌, ◌<◌, ◌≤◌, Err, IfErr, IfOk, OnOk, is_some};
 ghost use Rattle.run_switch.specs.Links.{switch_routes};
 ghost use Rattle.sw_book.specs.Most.{max_limit};
 ghost use Rattle.run_setup.specs.Plans.{IsLimitFault, IsSetUp, advices_of, header_of, journal_of};
@@ -19,7 +19,7 @@ use std::alloc::{AllocError, Global};
 use std::sync::Wait;
 use std::thread::Threads;
 use std::time::Clock;
-use sw_book::{Book, MAX_LIMIT};
+use sw_book::MAX_LIMIT;
 use sw_participant::Text;
 use sw_simulated::SimulatedSetup;
 
@@ -128,19 +128,16 @@ fn stand_in(config: &Config) -> u64
     config.limits.stand_in.unwrap_or(DEFAULT_STAND_IN)
 }
 
-// A new book with a limit, at most the greatest one.
-fn book(alloc: Global, limit: u64) -> Result<Book, SetupError>
-    ensures book { IfOk result (λ book. book ≡ record { limit = limit; items = [] }) }
+// A limit that a book may have.
+fn checked(limit: u64) -> Result<u64, SetupError>
+    ensures same { IfOk result (λ checked. checked ≡ limit) }
     ensures within { OnOk result (limit ≤ max_limit) }
     ensures refused { IfErr result (λ e. (e ≡ BadLimit limit) × (max_limit < limit)) }
 {
     if limit > MAX_LIMIT {
         return Err(SetupError::BadLimit(limit));
     }
-    match Book::new(alloc, limit) {
-        Ok(book) => Ok(book),
-        Err(_) => unreachable!(),
-    }
+    Ok(limit)
 }
 
 /// What a run is set up with by its options and its configuration. The threads of its hosts are started here. If
@@ -157,11 +154,11 @@ pub fn setup<T: Threads + Wait + Clock + Clone + Drop + Send + 'static>(
         → result ≡ Err (BadLimit (limit_of options.now config.now)) }
     ensures within { IfErr result (IsLimitFault options.now config.now) }
 {
-    let book = book(alloc, limit(options, config))?;
+    let limit = checked(limit(options, config))?;
     let routes = routes(alloc, config)?;
     let Links { queried, advised } = links_to_hosts(threads_of_hosts, alloc, rt, config)?;
     Ok(Setup {
-        book,
+        limit,
         stand_in: stand_in(config),
         routes,
         queried,
@@ -193,10 +190,9 @@ pub fn recovery(alloc: Global, config: &Config) -> Result<Setup<SwitchLink>, Set
     ensures set_up { IfOk result (λ setup. plain_setup setup ≡ recovery_of config.now) }
     ensures refused { IfErr result (λ e. e ≡ OutOfMemory) }
 {
-    let book = book(alloc, LIMIT)?;
     let routes = routes(alloc, config)?;
     Ok(Setup {
-        book,
+        limit: LIMIT,
         stand_in: stand_in(config),
         routes,
         queried: unasked(alloc, config)?,

@@ -1,6 +1,6 @@
 -- What came alone, answered in turn, and what comes after it.
 -- for: alone
-use Rattle.std.proofs.Common.{◌≡◌, ℕ, ◌+◌, List, [], ◌∷◌, ◌++◌, length, map, Option, Some, refl, sym, ap, subst, ◌∙◌, add-zero, append_assoc, append-nil}
+use Rattle.std.proofs.Common.{◌≡◌, ℕ, List, [], ◌∷◌, ◌++◌, length, map, Option, Some, refl, sym, ap, subst, ◌∙◌, add-zero, append_assoc, append-nil}
 use Rattle.std.specs.List.{AllByRecursion}
 use Rattle.sw_context.specs.Pairs.{Pairs}
 use Rattle.run_input.specs.declared.arrival.Arrival.{Arrival}

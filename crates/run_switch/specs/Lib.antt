@@ -13,3 +13,4 @@ pub mod Stopped
 pub mod Traces
 pub mod Numbers
 pub mod Shown
+pub mod Stations

@@ -5,7 +5,7 @@
 --   were found. *Unanswered*: the contexts of transactions that ended above that id. *At rest*: no
 --   session holds a transaction, all is written, and no response is left to give. *Ready*: at rest,
 --   the queue empty, nothing to recover, the history not long.
-use Rattle.std.specs.Prelude.{◌≡◌, ◌<◌, ℕ, Bool, false, List, [], ◌∷◌, length, nat_le, Option, Some, None}
+use Rattle.std.specs.Prelude.{◌≡◌, ◌<◌, ℕ, Bool, false, List, [], length, nat_le, Option, Some, None}
 use Rattle.std.specs.Ordering.{nat_cmp}
 use Rattle.std.specs.BTreeMap.{insert_entry}
 use Rattle.sw_context.specs.Pairs.{Pairs}

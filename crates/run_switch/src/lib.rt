@@ -104,10 +104,13 @@
 //!   words that are lost no contract says anything either.
 //! - Which lines of the trace or of the log are written of a run that ends with an error. That none is
 //!   written twice is a fact of the functions within (`once`), and is tested (`tests/memory.py`).
-//! - That each station has the participant of its name, or that the book, the routes, the links and the
-//!   amount of the stand-in are those of the setup. The participants are boxed, and a contract of `run`
-//!   does not see what is in a box. It is tested that each link of the setup has its participant
-//!   `query_NAME`.
+//! - Which participants take the calls of a run. The participants are boxed, and a contract of `run`
+//!   does not see what is in a box. But the function within that makes the plant takes no other stations
+//!   than those of the switch: `check`, `limits`, `route`, `reverse`, `standin`, `forward` and `respond`,
+//!   each with the participant of its name, an empty book with the setup's limit, the setup's routes and
+//!   the amount of its stand-in (`HasParticipant`, a `requires` of `Over::run`). Each station that is
+//!   added to those has the name of one that asks over a link, and a participant that asks over a link
+//!   (`IsQuery`, a `requires` of `add_query`). That it asks over the link of its name is tested.
 //!
 //! # Decisions
 //!

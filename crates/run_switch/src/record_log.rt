@@ -6,10 +6,11 @@ ghost use Rattle.run_switch.specs.Lines.{lines_in};
 ghost use Rattle.run_switch.specs.Records.{AddsRecords, BeginsRecords, Records, recording_of, records_in};
 
 use crate::error::ServeError;
+use crate::stats::milliseconds_of;
 use cli_io::write_whole;
 use std::alloc::Global;
 use std::io::Write;
-use std::time::{Clock, Duration, Instant};
+use std::time::{Clock, Instant};
 use sw_log::{Times, moment_text, record_line};
 use sw_record::record_after;
 use tx_engine::Engine;
@@ -141,9 +142,4 @@ impl<'a, E: Write, K: Clock> RecordLog<'a, E, K> {
             }
         }
     }
-}
-
-fn milliseconds_of(time: Duration) -> u64 {
-    let whole = time.as_secs().saturating_mul(1_000);
-    whole.saturating_add(u64::from(time.subsec_millis()))
 }

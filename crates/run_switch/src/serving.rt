@@ -1,13 +1,17 @@
 //! The whole run.
 
-ghost use Rattle.std.specs.Prelude.{◌≡◌, ◌-◌, ℕ, List, [], None, Some, option_map, true};
+ghost use Rattle.std.specs.Prelude.{◌≡◌, ◌-◌, ◌∷◌, ℕ, List, [], None, Some, codes, option_map, true};
 ghost use Rattle.std.specs.Prelude.{IfErr, IfNone, IfOk, IfSome, OnErr, OnOk};
 ghost use Rattle.tx_engine.specs.Calls.{waits};
 ghost use Rattle.std.specs.Io.KnownBytes.{Appends};
 ghost use Rattle.flow_model.specs.declared.flow.Flow.{Flow};
 ghost use Rattle.sw_context.specs.Names.{is_name};
 ghost use Rattle.sw_issuers.specs.Sending.{SendsAdvice};
-ghost use Rattle.sw_participant.specs.Stations.{calls_of, name_of};
+ghost use Rattle.sw_participant.specs.Callers.{Within};
+ghost use Rattle.sw_participant.specs.Calls.{PerformsCall};
+ghost use Rattle.sw_participant.specs.Stations.{calls_of, name_of, object_of, rule_of};
+ghost use Rattle.sw_parts.specs.Routes.{shown_routes};
+ghost use Rattle.sw_parts.specs.ShownBooks.{shown_book};
 ghost use Rattle.tx_history.specs.declared.journal.JournalView.{JournalView};
 ghost use Rattle.journal_store.specs.Kept.{kept};
 ghost use Rattle.tx_plant.specs.Plant.{IsEngine, Seen, seen};
@@ -16,11 +20,12 @@ ghost use Rattle.tx_plant.specs.Wholes.{engine_of};
 ghost use Rattle.run_switch.specs.Links.{sender_with};
 ghost use Rattle.run_switch.specs.Lines.{lines_in, written_as};
 ghost use Rattle.run_switch.specs.Points.{IsAtRest, point_of};
-ghost use Rattle.run_switch.specs.Ran.{Closes, HasBegun, Printed, Ran, ServesAll, ServesTold, all_lines};
+ghost use Rattle.run_switch.specs.Ran.{Closes, Printed, Ran, ServesAll, ServesTold, all_lines};
 ghost use Rattle.run_switch.specs.Ran.{lines_cut};
 ghost use Rattle.run_switch.specs.Rounds.{Recovers, Round, RoundsFor};
 ghost use Rattle.run_input.specs.Requests.{ReadTo, passed_over, readings};
 ghost use Rattle.run_switch.specs.Stopped.{DrainsSome, GoesOnSome, IsStopped, ServesSome};
+ghost use Rattle.run_switch.specs.Stations.{HasParticipant, IsQuery};
 ghost use Rattle.run_switch.specs.Shown.{TellsAll, TellsRun, unfinished_in, unfinished_of};
 ghost use Rattle.run_switch.specs.Traces.{DrainsAll, Tells, log_of};
 ghost use Rattle.cli_io.specs.Written.{AppendsBeginning};
@@ -44,12 +49,13 @@ use run_input::StreamEnd;
 use run_reports::Recovered;
 use run_responses::ResponseOrder;
 use sqlite::Alter;
-use std::alloc::Global;
+use std::alloc::{AllocError, Global};
 use std::io::{Read, Write};
 use std::marker::Brand;
 use std::sync::Wait;
 use std::thread::Threads;
 use std::time::Clock;
+use sw_book::Book;
 use sw_issuers::Sender;
 use sw_participant::{Bystander, NoMemory, Participant, Station, StationError, Unjoined};
 use sw_parts::{CheckFields, Forward, Limits, Link, QueryIssuer, Respond, Reverse, Route, StandIn};
@@ -233,9 +239,61 @@ fn end_of(
     Ok(end)
 }
 
+// The stations of the switch.
+struct Stations {
+    check: Station,
+    limits: Station,
+    route: Station,
+    reverse: Station,
+    standin: Station,
+    forward: Station,
+    respond: Station,
+    // One for each link that authorizations go over.
+    queries: Vec<Station>,
+}
+
+// Written out, so that no caller proves again how its parts are dropped.
+impl Drop for Stations {
+    fn drop(self) {
+        let Stations {
+            check: _,
+            limits: _,
+            route: _,
+            reverse: _,
+            standin: _,
+            forward: _,
+            respond: _,
+            queries: _,
+        } = self;
+    }
+}
+
+impl Stations {
+    // All of them in one list.
+    fn into_list(self, alloc: Global) -> Result<Vec<Station>, AllocError> {
+        let Stations {
+            check,
+            limits,
+            route,
+            reverse,
+            standin,
+            forward,
+            respond,
+            queries,
+        } = self;
+        let mut list = vec![in alloc; check, limits, route, reverse, standin, forward, respond]?;
+        for query in queries {
+            list.push(query)?;
+        }
+        Ok(list)
+    }
+}
+
 // What a run takes besides the stations, as one value: if a station is not made, only one value is dropped.
 struct Over<S: Alter, R: Read, L: Link> {
     journal: Journal<S>,
+    limit: u64,
+    stand_in: u64,
     input: Option<R>,
     header: usize,
     sender: Sender<L>,
@@ -249,6 +307,8 @@ impl<S: Alter + Drop, R: Read + Drop, L: Link> Drop for Over<S, R, L> {
     fn drop(self) {
         let Over {
             journal: _,
+            limit: _,
+            stand_in: _,
             input: _,
             header: _,
             sender: _,
@@ -264,13 +324,33 @@ impl<S: Alter + Drop, R: Read + Drop + Send + 'static, L: Link> Over<S, R, L> {
     // The run over the stations that were made: makes the plant, finishes what the journal has unfinished, and goes on.
     // (Apart, so that its proof does not carry how the stations are made. No function hands the plant out, since its
     // stations would hide from contracts whose they are.)
+    //
+    // It takes no other stations than those of the switch's own participants, by the limit, the stand-in's amount and
+    // the routes of the set-up: whoever calls it has to show whose they are.
     fn run<T: Threads + Wait + Clock + Clone + Drop + Send + Sync + 'static, O: Write, E: Write>(
         self,
         edge: &mut Edge<'_, T, E>,
         code: &Code,
-        stations: Vec<Station>,
+        stations: Stations,
         out: &mut O,
     ) -> Result<StreamEnd, ServeError>
+        requires check { HasParticipant Participant-dyn (codes "check")
+            (PerformsCall ⟦<Bystander<CheckFields> as Participant>⟧) [] stations.check }
+        requires limits { HasParticipant Participant-dyn (codes "limits")
+            (PerformsCall ⟦<Limits as Participant>⟧)
+            (shown_book (record { limit = self.limit; items = [] })) stations.limits }
+        requires route { HasParticipant Participant-dyn (codes "route")
+            (PerformsCall ⟦<Bystander<Route> as Participant>⟧)
+            (shown_routes self.sender.routes) stations.route }
+        requires reverse { HasParticipant Participant-dyn (codes "reverse")
+            (PerformsCall ⟦<Reverse as Participant>⟧) [] stations.reverse }
+        requires standin { HasParticipant Participant-dyn (codes "standin")
+            (PerformsCall ⟦<Bystander<StandIn> as Participant>⟧)
+            (self.stand_in ∷ []) stations.standin }
+        requires forward { HasParticipant Participant-dyn (codes "forward")
+            (PerformsCall ⟦<Forward as Participant>⟧) [] stations.forward }
+        requires respond { HasParticipant Participant-dyn (codes "respond")
+            (PerformsCall ⟦<Bystander<Respond> as Participant>⟧) [] stations.respond }
         ensures ran { IfOk result (λ end. IfSome self.input (λ reader. (frames : List (List ℕ))
             × ReadTo end (R.remaining reader) frames
             × (rounds : List Round) × RoundsFor self.threads (readings self.header frames) rounds
@@ -290,6 +370,8 @@ impl<S: Alter + Drop, R: Read + Drop + Send + 'static, L: Link> Over<S, R, L> {
     {
         let Over {
             journal,
+            limit: _,
+            stand_in: _,
             input,
             header,
             sender,
@@ -299,6 +381,7 @@ impl<S: Alter + Drop, R: Read + Drop + Send + 'static, L: Link> Over<S, R, L> {
             asks_hosts,
         } = self;
         let alloc = edge.alloc;
+        let stations = stations.into_list(alloc)?;
         let plant = match Plant::new(alloc, code, journal, stations, sessions) {
             Ok(plant) => plant,
             Err((error, _, stations)) => {
@@ -407,8 +490,19 @@ impl<S: Alter + Drop, R: Read + Drop + Send + 'static, L: Link> Begun<S, R, L> {
 }
 
 // A participant that never joins, ready for a station.
-fn boxed<P: Unjoined>(alloc: Global, participant: P) -> Result<Box<Bystander<P>>, ServeError> {
+fn boxed<P: Unjoined>(alloc: Global, participant: P) -> Result<Box<Bystander<P>>, ServeError>
+    ensures { IfOk result (λ made. ⟦<Bystander<P> as Participant>⟧.object made.value
+        ≡ P.object participant) }
+{
     Ok(Box::new(alloc, Bystander::new(participant))?)
+}
+
+// Adds a station to those whose participants ask over links.
+fn add_query(queries: &mut Vec<Station>, station: Station) -> Result<(), AllocError>
+    requires { IsQuery Participant-dyn (PerformsCall
+        ⟦<Bystander<Timed<QueryIssuer<SwitchLink>, HostRuntime>> as Participant>⟧) station }
+{
+    Ok(queries.push(station)?)
 }
 
 // The station of a participant whose name is good.
@@ -419,6 +513,10 @@ fn named(
 ) -> Result<Station, NoMemory>
     requires { is_name name.now ≡ true }
     ensures named { IfOk result (λ station. name_of station ≡ name.now) }
+    ensures shows { IfOk result (λ station. object_of Participant-dyn station
+        ≡ object participant) }
+    ensures within { IfOk result (λ station. Within (rule_of Participant-dyn station)
+        (PerformsCall (Participant-box participant))) }
     ensures none_made { IfOk result (λ station. calls_of station ≡ 0) }
 {
     match Station::new(alloc, name, participant) {
@@ -496,7 +594,7 @@ pub fn run<
         (O.contents out.old) (O.contents out.new)) }
 {
     let Setup {
-        book,
+        limit,
         stand_in,
         routes,
         queried,
@@ -510,6 +608,8 @@ pub fn run<
     let alloc = edge.alloc;
     let over = Over {
         journal,
+        limit,
+        stand_in,
         input,
         header,
         sender: sender_over(alloc, routes.as_slice(), advised)?,
@@ -517,6 +617,9 @@ pub fn run<
         sessions,
         threads,
         asks_hosts: asks_hosts(&queried),
+    };
+    let Ok(book) = Book::new(alloc, limit) else {
+        unreachable!()
     };
     // (All at once: with a return for each, each would prove how everything else is dropped.)
     let (Ok(check), Ok(limits), Ok(route), Ok(reverse)) = (
@@ -549,7 +652,7 @@ pub fn run<
     ) else {
         return Err(ServeError::OutOfMemory);
     };
-    let mut stations = vec![in alloc; check, limits, route, reverse, standin, forward, respond]?;
+    let mut queries = Vec::new(alloc);
     for NamedLink {
         name,
         link,
@@ -559,10 +662,20 @@ pub fn run<
         let query = boxed(alloc, Timed::new(query, timed))?;
         let station = query_name(alloc, name.as_str())?;
         match Station::new(alloc, station.as_str(), query) {
-            Ok(station) => stations.push(station)?,
+            Ok(station) => add_query(&mut queries, station)?,
             Err(StationError::BadName) => return Err(ServeError::BadLinkName(name)),
             Err(StationError::OutOfMemory) => return Err(ServeError::OutOfMemory),
         }
     }
+    let stations = Stations {
+        check,
+        limits,
+        route,
+        reverse,
+        standin,
+        forward,
+        respond,
+        queries,
+    };
     over.run(edge, code, stations, out)
 }

@@ -1,11 +1,11 @@
 //! What a run has besides its flow and its journal.
 
-ghost use Rattle.std.specs.Prelude.{◌≡◌, IfOk, string_bytes};
+ghost use Rattle.std.specs.Prelude.{◌≡◌, ◌≤◌, IfOk, string_bytes};
+ghost use Rattle.sw_book.specs.Most.{max_limit};
 ghost use Rattle.run_switch.specs.Links.{query_name, sender_with};
 
 use run_responses::ResponseOrder;
 use std::alloc::{AllocError, Global};
-use sw_book::Book;
 use sw_hosts::IssuerLink;
 use sw_issuers::{GroupLink, Sender};
 use sw_participant::{Sequence, Text};
@@ -29,8 +29,8 @@ pub struct NamedLink<L: Link> {
 /// What a run has besides its flow and its journal.
 #[derive(Drop)]
 pub struct Setup<L: Link> {
-    /// What the cards may spend.
-    pub book: Book,
+    /// What a card may spend, in minor units.
+    pub limit: u64,
     /// The greatest amount that the switch approves in an issuer's place, in minor units.
     pub stand_in: u64,
     /// Which group of the flow asks the issuer of a card, by the beginning of the card's number: for requests and
@@ -50,6 +50,8 @@ pub struct Setup<L: Link> {
     pub threads: Option<ResponseOrder>,
     /// The clock by which it is noted how long an issuer took; `None` if nobody wants to know.
     pub timed: Option<HostRuntime>,
+    // Such as a book may have.
+    ghost within: { limit ≤ max_limit },
 }
 
 /// The name of the participant that asks over the link of this name.

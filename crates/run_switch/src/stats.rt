@@ -1,6 +1,7 @@
 //! The lines of a run's numbers.
 
-ghost use Rattle.std.specs.Prelude.{◌≡◌, []};
+ghost use Rattle.std.specs.Prelude.{◌≡◌, ◌/◌, ◌-◌, ◌^◌, [], min};
+ghost use Rattle.std.specs.Duration.{as_nanos};
 ghost use Rattle.run_switch.specs.Numbers.{given_since, numbers_at};
 ghost use Rattle.run_switch.specs.Points.{point_of};
 ghost use Rattle.run_switch.specs.Shown.{ShowsNumbers, ShowsSince, every_of, hosts_of, is_due};
@@ -13,7 +14,7 @@ use cli_io::write_whole;
 use sqlite::Alter;
 use std::alloc::Global;
 use std::io::Write;
-use std::time::{Clock, Instant};
+use std::time::{Clock, Duration, Instant};
 use sw_stats::{Beside, Counts};
 
 /// Which lines of numbers a run writes: one at its end, and more if `every` is given.
@@ -23,6 +24,13 @@ pub struct Stats {
     pub every: Option<u64>,
     /// When the run began; `None` if the clock could not be read: then the lines say 0 seconds.
     pub started: Option<Instant>,
+}
+
+/// How many whole milliseconds a time has; the number does not go beyond 2^64 - 1.
+pub(crate) fn milliseconds_of(time: Duration) -> u64
+    ensures { result ≡ min (as_nanos time / 1000000) (2 ^ 64 - 1) }
+{
+    u64::try_from(time.as_millis()).unwrap_or(u64::MAX)
 }
 
 impl Stats {
@@ -42,10 +50,7 @@ impl Stats {
             return 0;
         };
         match started.elapsed(rt) {
-            Ok(time) => {
-                let whole = time.as_secs().saturating_mul(1_000);
-                whole.saturating_add(time.subsec_millis() as u64)
-            }
+            Ok(time) => milliseconds_of(time),
             Err(_) => 0,
         }
     }

@@ -1,4 +1,5 @@
-use Rattle.std.proofs.Common.{◌≡◌, ℕ, List, Option, Result, IfOk, IfSome, OnErr, inl, subst}
+use Rattle.std.proofs.Common.{◌≡◌, ◌∙◌, ap, ℕ, List, Option, Result, IfOk, IfSome, OnErr, inl, refl, subst, sym}
+use denote.Param.Object.{read_made}
 use Rattle.flow_model.specs.declared.flow.Flow.{Flow}
 use Rattle.sw_parts.specs.declared.route.Routing.{Routing}
 use Rattle.sw_issuers.specs.declared.sender.GroupLink.{GroupLink}
@@ -19,6 +20,12 @@ use Rattle.run_input.specs.declared.frames.StreamEnd.{StreamEnd}
 use Rattle.std.proofs.KnownBytes.{Keeps-refl}
 use Rattle.run_switch.proofs.Names.{check_good, forward_good, limits_good, respond_good, reverse_good, route_good, standin_good}
 use Rattle.run_switch.proofs.Stops.{on_err_of}
+use Rattle.sw_parts.specs.declared.limits.Limits.{Limits}
+use Rattle.sw_parts.specs.Routes.{shown_routes}
+use Rattle.sw_parts.specs.ShownBooks.{shown_book}
+use Rattle.run_switch.specs.contracts.serving.named.{dyn-1-ghosts}
+use Rattle.run_switch.proofs.serving.run.OwnLists.{at-1-1, at-1-2, at-1-3, at-1-4, at-1-5, at-1-6, at-1-7, own-1, lawful-own-1}
+use Rattle.run_switch.proofs.serving.run.Hidden.{sends-own-1, syncs-own-1}
 use Rattle.run_switch.proofs.serving.run.Goals as goal
 
 -- what a run promises, of the sender that it was given
@@ -55,9 +62,6 @@ pub returns-clause-stopped : goal.returns-clause-stopped
 returns-clause-stopped g c = stopped_by c.args.setup.header c.run.result _ _ _ _ _ _ _ _ _ _ _ (over_same_routes _ _ _ _ _ c.in_ok-sender_over.ensures c.as_slice.ensures)
     c.run.ensures.stopped
 
-pub returns-in_default-clause-stopped : goal.returns-in_default-clause-stopped
-returns-in_default-clause-stopped g c = inl (Keeps-refl _)
-
 pub returns-in_default-2-clause-stopped : goal.returns-in_default-2-clause-stopped
 returns-in_default-2-clause-stopped g c = inl (Keeps-refl _)
 
@@ -67,8 +71,8 @@ returns-in_default-3-clause-stopped g c = inl (Keeps-refl _)
 pub returns-in_default-4-clause-stopped : goal.returns-in_default-4-clause-stopped
 returns-in_default-4-clause-stopped g c = inl (Keeps-refl _)
 
-pub returns-in_err-stations-clause-stopped : goal.returns-in_err-stations-clause-stopped
-returns-in_err-stations-clause-stopped g c = on_err_of c.from_residual-in_err-stations.result (inl (Keeps-refl _))
+pub returns-in_default-5-clause-stopped : goal.returns-in_default-5-clause-stopped
+returns-in_default-5-clause-stopped g c = inl (Keeps-refl _)
 
 pub returns-in_err-query-clause-stopped : goal.returns-in_err-query-clause-stopped
 returns-in_err-query-clause-stopped g c = on_err_of c.from_residual-in_err-query.result (inl (Keeps-refl _))
@@ -76,8 +80,8 @@ returns-in_err-query-clause-stopped g c = on_err_of c.from_residual-in_err-query
 pub returns-in_err-station-clause-stopped : goal.returns-in_err-station-clause-stopped
 returns-in_err-station-clause-stopped g c = on_err_of c.from_residual-in_err-station.result (inl (Keeps-refl _))
 
-pub returns-in_err-push-in-Ok-clause-stopped : goal.returns-in_err-push-in-Ok-clause-stopped
-returns-in_err-push-in-Ok-clause-stopped g c = on_err_of c.from_residual-in_err-push-in-Ok.result (inl (Keeps-refl _))
+pub returns-in_err-add_query-in-Ok-new-clause-stopped : goal.returns-in_err-add_query-in-Ok-new-clause-stopped
+returns-in_err-add_query-in-Ok-new-clause-stopped g c = on_err_of c.from_residual-in_err-add_query-in-Ok-new.result (inl (Keeps-refl _))
 
 pub returns-in-Err-BadName-clause-stopped : goal.returns-in-Err-BadName-clause-stopped
 returns-in-Err-BadName-clause-stopped g c = inl (Keeps-refl _)
@@ -105,3 +109,76 @@ named-requires-6 g c = forward_good
 
 pub named-requires-7 : goal.named-requires-7
 named-requires-7 g c = respond_good
+
+-- The switch's own stations. (What a boxed participant shows is read through the table of those that are boxed here, whose entries
+-- stand in the order in which they are boxed.)
+
+pub run-requires-clause-check : goal.run-requires-clause-check
+run-requires-clause-check g c = λ κs within. record {
+  named = c.in-Ok-Ok-Ok-Ok-2.ensures.named;
+  shows = c.in-Ok-Ok-Ok-Ok-2.ensures.shows
+      ∙ (read_made (dyn-1-ghosts (own-1, lawful-own-1, sends-own-1, syncs-own-1)).0 _ at-1-1 refl _ (λ j w. j.1.object w) _ _ c.in-Ok-Ok-Ok-Ok.check.value c.into_dyn_box.ensures.1
+      ∙ (c.in-Ok-Ok-Ok-Ok.ensures ∙ c.new-2.ensures));
+  within = λ id act o x reply p y h. rw (c.into_dyn_box.ensures.0) at (c.in-Ok-Ok-Ok-Ok-2.ensures.within id act o x reply p y h);
+}
+
+pub run-requires-clause-limits : goal.run-requires-clause-limits
+run-requires-clause-limits g c = λ κs within. record {
+  named = c.in-Ok-Ok-Ok-Ok-2.ensures'.named;
+  shows = c.in-Ok-Ok-Ok-Ok-2.ensures'.shows
+      ∙ (read_made (dyn-1-ghosts (own-1, lawful-own-1, sends-own-1, syncs-own-1)).0 _ at-1-2 refl _ (λ j w. j.1.object w) _ _ c.in-Ok-Ok-Ok-Ok.limits.value c.into_dyn_box-2.ensures.1
+      ∙ (ap (λ (l : Limits). shown_book l.book) c.in-Ok-Ok-Ok-Ok.ensures'.ok ∙ (c.new-3.ensures ∙ ap shown_book c.in-Ok.ensures.book)));
+  within = λ id act o x reply p y h. rw (c.into_dyn_box-2.ensures.0) at (c.in-Ok-Ok-Ok-Ok-2.ensures'.within id act o x reply p y h);
+}
+
+pub run-requires-clause-route : goal.run-requires-clause-route
+run-requires-clause-route g c = λ κs within. record {
+  named = c.in-Ok-Ok-Ok-Ok-2.ensures''.named;
+  shows = c.in-Ok-Ok-Ok-Ok-2.ensures''.shows
+      ∙ (read_made (dyn-1-ghosts (own-1, lawful-own-1, sends-own-1, syncs-own-1)).0 _ at-1-3 refl _ (λ j w. j.1.object w) _ _ c.in-Ok-Ok-Ok-Ok.route.value c.into_dyn_box-3.ensures.1
+      ∙ (c.in-Ok-Ok-Ok-Ok.ensures'' ∙ (c.new-5.ensures ∙ ap shown_routes (sym (ap (λ (z : PlainSender). z.routes) c.in_ok-sender_over.ensures ∙ c.as_slice.ensures)))));
+  within = λ id act o x reply p y h. rw (c.into_dyn_box-3.ensures.0) at (c.in-Ok-Ok-Ok-Ok-2.ensures''.within id act o x reply p y h);
+}
+
+pub run-requires-clause-reverse : goal.run-requires-clause-reverse
+run-requires-clause-reverse g c = λ κs within. record {
+  named = c.in-Ok-Ok-Ok-Ok-2.ensures'''.named;
+  shows = c.in-Ok-Ok-Ok-Ok-2.ensures'''.shows
+      ∙ (read_made (dyn-1-ghosts (own-1, lawful-own-1, sends-own-1, syncs-own-1)).0 _ at-1-4 refl _ (λ j w. j.1.object w) _ _ c.in-Ok-Ok-Ok-Ok.reverse.value c.into_dyn_box-4.ensures.1
+      ∙ refl);
+  within = λ id act o x reply p y h. rw (c.into_dyn_box-4.ensures.0) at (c.in-Ok-Ok-Ok-Ok-2.ensures'''.within id act o x reply p y h);
+}
+
+pub run-requires-clause-standin : goal.run-requires-clause-standin
+run-requires-clause-standin g c = λ κs within. record {
+  named = c.in-Ok-Ok-Ok-2.ensures.named;
+  shows = c.in-Ok-Ok-Ok-2.ensures.shows
+      ∙ (read_made (dyn-1-ghosts (own-1, lawful-own-1, sends-own-1, syncs-own-1)).0 _ at-1-5 refl _ (λ j w. j.1.object w) _ _ c.in-Ok-Ok-Ok.standin.value c.into_dyn_box-5.ensures.1
+      ∙ (c.in-Ok-Ok-Ok.ensures ∙ c.new-8.ensures));
+  within = λ id act o x reply p y h. rw (c.into_dyn_box-5.ensures.0) at (c.in-Ok-Ok-Ok-2.ensures.within id act o x reply p y h);
+}
+
+pub run-requires-clause-forward : goal.run-requires-clause-forward
+run-requires-clause-forward g c = λ κs within. record {
+  named = c.in-Ok-Ok-Ok-2.ensures'.named;
+  shows = c.in-Ok-Ok-Ok-2.ensures'.shows
+      ∙ (read_made (dyn-1-ghosts (own-1, lawful-own-1, sends-own-1, syncs-own-1)).0 _ at-1-6 refl _ (λ j w. j.1.object w) _ _ c.in-Ok-Ok-Ok.forward.value c.into_dyn_box-6.ensures.1
+      ∙ refl);
+  within = λ id act o x reply p y h. rw (c.into_dyn_box-6.ensures.0) at (c.in-Ok-Ok-Ok-2.ensures'.within id act o x reply p y h);
+}
+
+pub run-requires-clause-respond : goal.run-requires-clause-respond
+run-requires-clause-respond g c = λ κs within. record {
+  named = c.in-Ok-Ok-Ok-2.ensures''.named;
+  shows = c.in-Ok-Ok-Ok-2.ensures''.shows
+      ∙ (read_made (dyn-1-ghosts (own-1, lawful-own-1, sends-own-1, syncs-own-1)).0 _ at-1-7 refl _ (λ j w. j.1.object w) _ _ c.in-Ok-Ok-Ok.respond.value c.into_dyn_box-7.ensures.1
+      ∙ (c.in-Ok-Ok-Ok.ensures'' ∙ c.new-11.ensures));
+  within = λ id act o x reply p y h. rw (c.into_dyn_box-7.ensures.0) at (c.in-Ok-Ok-Ok-2.ensures''.within id act o x reply p y h);
+}
+
+pub add_query-requires : goal.add_query-requires
+add_query-requires g c = record {
+  link = c.as_str.result.now;
+  named = c.in-Ok-new.ensures.named ∙ (c.as_str-in-loop-name.ensures.value ∙ c.in_ok-station.ensures);
+  within = λ id act o x reply p y h. rw (c.in-Ok-new.ensures.its_type, c.into_dyn_box-in-loop-name.ensures.0) at (h);
+}

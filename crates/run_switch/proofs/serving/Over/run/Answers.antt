@@ -144,4 +144,7 @@ returns-clause-stopped g c =
     c.go_on.ensures.stops
 
 pub returns-in_err-recover-clause-stopped : goal.returns-in_err-recover-clause-stopped
-returns-in_err-recover-clause-stopped g c = on_err_of c.from_residual.result (inl (Keeps-refl _))
+returns-in_err-recover-clause-stopped g c = on_err_of c.from_residual-in_err-recover.result (inl (Keeps-refl _))
+
+pub returns-in-Err-clause-stopped : goal.returns-in-Err-clause-stopped
+returns-in-Err-clause-stopped g c = inl (Keeps-refl _)

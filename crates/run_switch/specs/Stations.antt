@@ -1,0 +1,25 @@
+-- Which participants the stations of a run have.
+--
+-- - *Has participant* (`Stations.antt`): a station has the participant of this name, which keeps its relation and shows this
+--   object at first. *Is query*: a station of a participant that asks over a link.
+use Rattle.std.specs.Prelude.{◌≡◌, ℕ, List}
+use Rattle.sw_participant.specs.declared.participant.Participant.{Ghosts}
+use Rattle.sw_participant.specs.declared.station.Station.{Station}
+use Rattle.sw_participant.specs.Callers.{Within}
+use Rattle.sw_participant.specs.Chains.{Rule}
+use Rattle.sw_participant.specs.Stations.{name_of, object_of, rule_of}
+use Rattle.run_switch.specs.Links.{query_name}
+
+-- `members` is what each type of participant states (in a clause: `Participant-dyn`)
+module _ {I : Type 0} {D : I → Type 0} (members : (z : (k : I) × D k) → Ghosts (D z.0)) where
+  -- the station has this name, its participant does no more than this rule allows, and it shows this object
+  pub record HasParticipant (name : List ℕ) (rule : Rule) (object : List ℕ) (s : Station I D) : Type 0 where
+    pub named : name_of s ≡ name
+    pub shows : object_of members s ≡ object
+    pub within : Within (rule_of members s) rule
+
+  -- the station has a participant that asks by this rule, and the name of one that asks over a link
+  pub record IsQuery (rule : Rule) (s : Station I D) : Type 0 where
+    pub link : List ℕ
+    pub named : name_of s ≡ query_name link
+    pub within : Within (rule_of members s) rule
