@@ -775,6 +775,18 @@ def answered_before_a_silent_host(program, room):
         run.end()
 
 
+def leg_ends_when_idle(program, room):
+    """With threads the trace of a request is written once it is answered, though the input stays open and nothing more comes."""
+    with switch(program, room, "--threads", "--sessions", "4", "--trace") as (run, wire):
+        # (the network test before it has ended too)
+        run.told(b"-> done", 1)
+        run.send(request(1))
+        wire.put(reply(wire.get()))
+        run.receive()
+        run.told(b"-> done", 1)
+        run.end()
+
+
 def silent_among_others(program, room):
     """With threads responses leave in the order of requests, and so wait for a silent host: for each of its requests, and with `retry_ms` only
     for one of them. Its advices go to that host, one after the other like its requests."""
@@ -1120,6 +1132,7 @@ CASES = [
     asked_at_once,
     unordered,
     answered_before_a_silent_host,
+    leg_ends_when_idle,
     silent_among_others,
     four_under_way,
     answered_in_reverse,

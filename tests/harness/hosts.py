@@ -158,6 +158,15 @@ class Run:
         self.send(message)
         return self.receive()
 
+    def told(self, end, count):
+        """Waits until standard error has so many lines that end so."""
+        err, until = b"", time.monotonic() + SECONDS
+        while err.count(end + b"\n") < count:
+            ready, _, _ = select.select([self.process.stderr], [], [], max(until - time.monotonic(), 0))
+            if not ready:
+                raise Wrong(f"standard error: wanted {count} lines that end in {end!r}, came {err!r}")
+            err += os.read(self.process.stderr.fileno(), 65_536)
+
     def end(self, status=0):
         """The input ends, and then the run; returns what was written to standard error."""
         self.process.stdin.close()
