@@ -43,7 +43,7 @@ pub taken : {E : Type 0} (P : Flow → Config → Type 0) (code : Result Flow E)
     → code ≡ Ok flow → config ≡ Ok c → P flow c → IfTaken code config P
 taken P code config flow c one other h = rw (one, other) h
 
-answered_over : {S C : Type 0} (files : Ghosts S) (flow : Flow) (o : RunOptions) (c : Config) (setup : Setup (IssuerLink C)) (j : Seen)
+answered_over : {S C : Type 0} {g : _} (files : Ghosts S) (flow : Flow) (o : RunOptions) (c : Config) (setup : Setup (IssuerLink C) g) (j : Seen)
     (unread before after : Option (List ℕ)) (r : Result (Unit {0}) RunError)
     → IsSetUp o c setup → TakesSetUp o.config flow c → IsFound files (journal_of o c) j
     → OnOk r (Served setup.header setup.threads flow setup.sessions j (sender_of_setup (plain_setup setup)) setup.advices unread before after)
@@ -59,7 +59,7 @@ answered_over files flow o c setup j unread before after r set_up takes found h 
       served = served;
     }) h
 
-pub answered_by_file : {S C : Type 0} (files : Ghosts S) (flow : Flow) (o : RunOptions) (c : Config) (setup : Setup (IssuerLink C)) (path named : List ℕ)
+pub answered_by_file : {S C : Type 0} {g : _} (files : Ghosts S) (flow : Flow) (o : RunOptions) (c : Config) (setup : Setup (IssuerLink C) g) (path named : List ℕ)
     (journal : Kept S) (unread before after : Option (List ℕ)) (r : Result (Unit {0}) RunError)
     → IsSetUp o c setup → TakesSetUp o.config flow c → Some path ≡ journal_of o c → IsOfFile files path journal
     → OnOk r (Served setup.header setup.threads flow setup.sessions (seen (kept files journal)) (sender_of_setup (plain_setup setup)) setup.advices unread before after)
@@ -69,7 +69,7 @@ answered_by_file files flow o c setup path named journal unread before after r s
     (answered_over files flow o c setup (seen (kept files journal)) unread before after r set_up takes
     (subst (λ (x : Option (List ℕ)). IsFound files x (seen (kept files journal))) of_options (journal, opened, refl)) h)
 
-pub answered_in_memory : {S C : Type 0} (files : Ghosts S) (flow : Flow) (o : RunOptions) (c : Config) (setup : Setup (IssuerLink C))
+pub answered_in_memory : {S C : Type 0} {g : _} (files : Ghosts S) (flow : Flow) (o : RunOptions) (c : Config) (setup : Setup (IssuerLink C) g)
     (journal : Kept MemStore) (unread before after : Option (List ℕ)) (r : Result (Unit {0}) RunError)
     → IsSetUp o c setup → TakesSetUp o.config flow c → None ≡ journal_of o c → IsNewJournal journal
     → OnOk r (Served setup.header setup.threads flow setup.sessions (seen (kept over_memory journal)) (sender_of_setup (plain_setup setup)) setup.advices unread before

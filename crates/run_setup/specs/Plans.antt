@@ -119,7 +119,7 @@ pub record PlainSetup : Type 0 where
   -- whether it is noted how long an issuer took
   pub timed : Bool
 
-abbrev pub plain_setup : {C : Type 0} → Setup (IssuerLink C) → PlainSetup
+abbrev pub plain_setup : {C : Type 0} {g : _} → Setup (IssuerLink C) g → PlainSetup
 plain_setup s = record {
   limit = s.limit;
   stand_in = s.stand_in;
@@ -174,6 +174,6 @@ recovery_of c = record {
 }
 
 -- a run is set up so, which it is only with a limit that a book may have
-pub record IsSetUp {C : Type 0} (o : RunOptions) (c : Config) (setup : Setup (IssuerLink C)) : Type 0 where
+pub record IsSetUp {C : Type 0} {g : _} (o : RunOptions) (c : Config) (setup : Setup (IssuerLink C) g) : Type 0 where
   pub within : limit_of o c ≤ max_limit
   pub plain : plain_setup setup ≡ setup_of o c

@@ -12,7 +12,7 @@ abbrev pub host_name : {C : Type 0} → NamedLink (IssuerLink C) → Option (Lis
 host_name l = cond (has_host l.link) (Some l.name) None
 
 -- the flow, the names of all hosts, the journal and the sessions; and of those hosts the ones that are reached by streams
-pub record IsWordsOf {C : Type 0} (flow : List ℕ) (journal : Option (List ℕ)) (setup : Setup (IssuerLink C)) (words : Words) : Type 0 where
+pub record IsWordsOf {C : Type 0} {g : _} (flow : List ℕ) (journal : Option (List ℕ)) (setup : Setup (IssuerLink C) g) (words : Words) : Type 0 where
   pub ready : words.ready ≡ record {
     flow = flow;
     hosts = map (λ l. l.name) setup.queried.items;
