@@ -47,7 +47,7 @@ FAKE = os.path.join(HERE, "gateway", "fake_engine.py")
 # How long a case may take, in seconds.
 CASE = 150
 SHARDS = 2
-TIMES = ["--wait", "1", "--late", "2"]
+TIMES = ("--wait", "1", "--late", "2")
 
 
 class Front(Running):
@@ -55,7 +55,7 @@ class Front(Running):
 
     def __init__(self, bench, name, nodes):
         command = [WITHOUT, bench.without, "front"] if bench.without else [GATEWAY, "front"]
-        super().__init__(bench.room, name, command, [*bench.over(nodes), *TIMES, "--web", "off"])
+        super().__init__(bench.room, name, command, [*bench.over(nodes), *bench.times, "--web", "off"])
         self.port = 0
 
     def launch(self):
@@ -71,7 +71,7 @@ class Machine(Running):
     def __init__(self, bench, name, nodes, issuer):
         command = [WITHOUT, bench.without, "worker"] if bench.without else [GATEWAY, "worker"]
         folder = os.path.join(bench.room, name)
-        words = [*bench.over(nodes), *TIMES, "--shards", f"0-{SHARDS - 1}", "--program", bench.program, "--flow", FLOW]
+        words = [*bench.over(nodes), *bench.times, "--shards", f"0-{bench.shards - 1}", "--program", bench.program, "--flow", FLOW]
         words += ["--config", configured(bench.room), "--folder", folder, "--issuer", f"alpha=127.0.0.1:{issuer.port}"]
         super().__init__(bench.room, name, command, words)
 
@@ -97,6 +97,8 @@ class Bench:
     cluster: rabbit.Cluster
     queues: str
     without: str | None = None
+    shards: int = SHARDS
+    times: tuple = TIMES
 
     @property
     def patience(self):
@@ -104,7 +106,7 @@ class Bench:
         return 2 if self.without else 8
 
     def over(self, nodes):
-        return ["--amqp", self.cluster.url(*nodes), "--of", str(SHARDS), "--queues", self.queues]
+        return ["--amqp", self.cluster.url(*nodes), "--of", str(self.shards), "--queues", self.queues]
 
 
 @contextlib.contextmanager
@@ -119,7 +121,7 @@ def running(bench, fronts=1, machines=1, delay=0.02):
             all_parts.append(Machine(bench, f"machine{at}", nodes, issuer))
         for part in reversed(all_parts):
             part.start()
-        warmed(all_parts[0])
+        warmed(all_parts[0], bench.shards)
         yield all_parts[:fronts], all_parts[fronts:], issuer
     finally:
         for part in all_parts:
@@ -129,11 +131,11 @@ def running(bench, fronts=1, machines=1, delay=0.02):
         issuer.close()
 
 
-def warmed(front):
+def warmed(front, shards):
     """Asks each shard until the issuer is asked: engines open their pipes at their first request."""
     client = Client(front.port)
-    for shard in range(SHARDS):
-        card = next(it for it in range(900_000, 900_100) if shard_of(it, SHARDS) == shard)
+    for shard in range(shards):
+        card = next(it for it in range(900_000, 900_100) if shard_of(it, shards) == shard)
         for stan in range(1, 60):
             client.send(request(card, stan, sent=WARMING))
             answer = client.receive(2)

@@ -3,11 +3,12 @@
 gateway.
 
     tests/gateway/measure.py [--program PATH | --fast] [--engines 1,2,4] [--connections N] [--requests N]
-        [--kills [--every S]]
+        [--broker] [--kills [--every S]]
 
-With --fast the engines cost nothing, so that the gateway is what is measured. Each connection has one request open at
-a time. The issuer answers at once. With --kills an engine is killed each second, and the gateway each fifth time;
-then the accounting has to find no fault. `./test` does not run it.
+With --fast the engines cost nothing, so that the gateway is what is measured. With --broker RabbitMQ is in between: one
+node, one front and one worker. Each connection has one request open at a time. The issuer answers at once. With --kills
+an engine is killed each S seconds, and each fifth time the gateway, or the front and the worker in turn; then the
+accounting has to find no fault. `./test` does not run it.
 """
 
 import argparse
@@ -24,8 +25,9 @@ sys.dont_write_bytecode = True
 HERE = os.path.dirname(os.path.abspath(__file__))
 sys.path[:0] = [os.path.dirname(HERE), os.path.join(os.path.dirname(os.path.dirname(HERE)), "contrib", "gateway")]
 
+import broker  # noqa: E402
 import kills  # noqa: E402
-from gateway import load  # noqa: E402
+from gateway import load, rabbit  # noqa: E402
 from gateway.fronts import warmed  # noqa: E402
 from gateway.issuer import Issuer  # noqa: E402
 from gateway.served import serving  # noqa: E402
@@ -42,26 +44,29 @@ def seconds_of(pid):
     return (int(parts[11]) + int(parts[12])) / os.sysconf("SC_CLK_TCK")
 
 
-async def killing(gateway, chosen, every):
+async def killing(parts, chosen, every):
+    """Kills engines of the last of these parts, and each fifth time one of the parts, in turn."""
     turn = 0
     while True:
         await asyncio.sleep(every)
         turn += 1
         if turn % 5 == 0:
-            gateway.kill()
-            await gateway.start_again()
-        elif engines := gateway.engines():
+            part = parts[turn // 5 % len(parts)]
+            part.kill()
+            await part.start_again()
+        elif engines := parts[-1].engines():
             with contextlib.suppress(ProcessLookupError):
                 os.kill(chosen.choice(engines), signal.SIGKILL)
 
 
-async def worked(work, gateway, given):
-    task = asyncio.ensure_future(killing(gateway, random.Random(3), given.every)) if given.kills else None
+async def worked(work, parts, given):
+    task = asyncio.ensure_future(killing(parts, random.Random(3), given.every)) if given.kills else None
     is_over = await work.run(given.seconds)
     if task is not None:
         task.cancel()
-        if gateway.process.poll() is not None:
-            await gateway.start_again()
+        for part in parts:
+            if part.process.poll() is not None:
+                await part.start_again()
     return is_over
 
 
@@ -75,30 +80,45 @@ def accounted(work, issuer, begin):
     print(f"  {len(faults)} faults {faults[:3]}", flush=True)
 
 
-def measured(given, engines):
-    """One run; prints its line."""
-    issuer, room = Issuer(), tempfile.mkdtemp()
-    times = ["--wait", "5", "--late", "8"] if not given.kills else ["--wait", "1", "--late", "2"]
+@contextlib.contextmanager
+def served(given, engines):
+    """A gateway, or a front and a worker with the broker in between, and the issuer that they ask."""
+    times = ("--wait", "5", "--late", "8") if not given.kills else broker.TIMES
+    room = tempfile.mkdtemp()
+    if given.broker:
+        with rabbit.cluster(f"{room}/rabbit", 1) as nodes:
+            os.makedirs(f"{room}/parts")
+            bench = broker.Bench(given.program, f"{room}/parts", nodes, "classic", shards=engines, times=times)
+            with broker.running(bench, delay=0) as ((front,), (machine,), issuer):
+                yield [front, machine], issuer
+        return
+    issuer = Issuer()
     try:
         with serving(given.program, room, "--engines", str(engines), *times, issuer=issuer) as gateway:
             if not given.fast:
                 warmed(gateway)
-            begin, before = len(issuer.ledger), seconds_of(gateway.process.pid)
-            work = load.Load([gateway.port], given.connections, given.requests, 3.0 if given.kills else 10.0)
-            began = time.monotonic()
-            is_over = asyncio.run(worked(work, gateway, given))
-            took, used = time.monotonic() - began, seconds_of(gateway.process.pid) - before
-            shown = sorted(work.times) or [0.0]
-            share = lambda part: 1000 * shown[min(len(shown) - 1, int(part * len(shown)))]  # noqa: E731
-            line = f"{engines} engines: {len(work.records) / took:.0f} requests a second, "
-            line += f"median {share(0.5):.1f} ms, 99th percentile {share(0.99):.1f} ms"
-            if not given.kills:
-                line += f", {1e6 * used / len(work.records):.0f} µs of processor time in the gateway for each"
-            print(line + ("" if is_over else "; not all were over"), flush=True)
-            if given.kills:
-                accounted(work, issuer, begin)
+            yield [gateway], issuer
     finally:
         issuer.close()
+
+
+def measured(given, engines):
+    """One run; prints its line."""
+    with served(given, engines) as (parts, issuer):
+        begin, before = len(issuer.ledger), seconds_of(parts[0].process.pid)
+        work = load.Load([parts[0].port], given.connections, given.requests, 3.0 if given.kills else 10.0)
+        began = time.monotonic()
+        is_over = asyncio.run(worked(work, parts, given))
+        took, used = time.monotonic() - began, seconds_of(parts[0].process.pid) - before
+        shown = sorted(work.times) or [0.0]
+        share = lambda part: 1000 * shown[min(len(shown) - 1, int(part * len(shown)))]  # noqa: E731
+        line = f"{engines} engines: {len(work.records) / took:.0f} requests a second, "
+        line += f"median {share(0.5):.1f} ms, 99th percentile {share(0.99):.1f} ms"
+        if not given.kills:
+            line += f", {1e6 * used / len(work.records):.0f} µs of processor time in the gateway for each"
+        print(line + ("" if is_over else "; not all were over"), flush=True)
+        if given.kills:
+            accounted(work, issuer, begin)
 
 
 def main():
@@ -109,6 +129,7 @@ def main():
     parser.add_argument("--connections", type=int, default=64)
     parser.add_argument("--requests", type=int, default=10_000)
     parser.add_argument("--seconds", type=float, default=600, help="how long a run may take")
+    parser.add_argument("--broker", action="store_true")
     parser.add_argument("--kills", action="store_true")
     parser.add_argument("--every", type=float, default=4)
     given = parser.parse_args()
