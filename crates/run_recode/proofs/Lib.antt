@@ -1,0 +1,2 @@
+mod Flows
+mod Queues

@@ -1,0 +1,37 @@
+-- What a reader that recodes has given.
+use Rattle.std.specs.Prelude.{◌≡◌, ◌⊎◌, ℕ, true, List, [], ◌++◌, take, Option, Result, MatchResult}
+use Rattle.std.specs.Arc.{arc_value}
+use Rattle.std.specs.Io.KnownBytes.{Consumes}
+use Rattle.dialect_toml.specs.declared.frame.Frame.{Frame}
+use Rattle.cli_recode.specs.declared.message.Recoding.{Recoding}
+use Rattle.run_recode.specs.Flows.{IsHandedOn, IsOver, tail_at}
+use Rattle.run_recode.specs.declared.reader.ReadSide.{ReadSide}
+
+-- These bytes were taken from the reader inside, and those given, with what still waits, are what is written for their messages.
+pub record IsReadSo {E : Type 0} (form : Frame) (job : Recoding) (unread : Option (List ℕ)) (bytes out : List ℕ) (s : ReadSide E) : Type 0 where
+  pub same : arc_value s.recoding ≡ job
+  pub handed : IsHandedOn form job bytes out (tail_at s.ended s.flow.recoder.framer.has) s.flow
+  pub over : s.ended ≡ true → IsOver unread s.flow
+
+-- the same after an error, unless memory ran out
+abbrev pub IsReadOrBroken : {E : Type 0} → Frame → Recoding → Option (List ℕ) → List ℕ → List ℕ → ReadSide E → Type 0
+IsReadOrBroken form job unread bytes out s = IsReadSo form job unread bytes out s ⊎ (s.flow.broken ≡ true)
+
+-- a step takes bytes from the reader inside, and gives nothing yet
+abbrev pub StepsOn : {E X F : Type 0} → Option (List ℕ) → ReadSide E → Option (List ℕ) → ReadSide E → Result X F → Type 0
+StepsOn unread s left t result =
+    (form : Frame) (job : Recoding) (bytes out : List ℕ) → IsReadSo form job unread bytes out s
+    → (taken : List ℕ) × Consumes unread left taken
+    × MatchResult result (λ _. IsReadSo form job left (bytes ++ taken) out t) (λ _. IsReadOrBroken form job left (bytes ++ taken) out t)
+
+-- a read takes bytes from the reader inside, and gives the first ones of a buffer
+abbrev pub ReadsOn : {E F : Type 0} → Option (List ℕ) → ReadSide E → Option (List ℕ) → ReadSide E → Result ℕ F → List ℕ → Type 0
+ReadsOn unread s left t result buf =
+    (form : Frame) (job : Recoding) (bytes out : List ℕ) → IsReadSo form job unread bytes out s
+    → (taken : List ℕ) × Consumes unread left taken
+    × MatchResult result (λ n. IsReadSo form job left (bytes ++ taken) (out ++ take n buf) t)
+    (λ _. IsReadOrBroken form job left (bytes ++ taken) out t)
+
+-- all was given
+abbrev pub IsEnd : {E : Type 0} → ReadSide E → Type 0
+IsEnd s = (s.ended ≡ true) × (s.flow.queue ≡ [])
