@@ -4,7 +4,7 @@ ghost use Rattle.std.specs.Prelude.{◌≡◌, IfOk, option_map, take};
 ghost use Rattle.iso_codec.specs.Spelling.{spelling};
 ghost use Rattle.dialect_frame.specs.Writings.{WrittenAs};
 ghost use Rattle.cli_recode.specs.FormatErrors.{IsFormatErrorOf, format_error};
-ghost use Rattle.cli_recode.specs.Recodings.{IsInstead, own_form};
+ghost use Rattle.cli_recode.specs.Recodings.{IsFramedOrNothing, IsInstead, own_form};
 ghost use Rattle.cli_recode.specs.declared.message.Instead.TheVariants.{FormatError};
 
 use crate::error::RecodeError;
@@ -35,11 +35,7 @@ fn format_error(alloc: Global, response: &Message) -> Result<Vec<u8>, AllocError
 }
 
 // The same after the header of the other response; `None` of what is no message.
-fn format_error_of(
-    alloc: Global,
-    header: u8,
-    message: &[u8],
-) -> Result<Option<Vec<u8>>, AllocError>
+fn format_error_of(alloc: Global, header: u8, message: &[u8]) -> Result<Option<Vec<u8>>, AllocError>
     ensures { IfOk result (λ text. IsFormatErrorOf header message.now
         (option_map (λ v. v.items) text)) }
 {
@@ -57,7 +53,18 @@ fn format_error_of(
     }
 }
 
-// The frame of that response, or nothing.
+// The frame of a response, or nothing where that has a fault.
+fn frame_or_nothing(alloc: Global, recoding: &Recoding, text: &[u8]) -> Result<Vec<u8>, AllocError>
+    ensures { IfOk result (λ v. IsFramedOrNothing recoding.now text.now v.items) }
+{
+    match recode_message(alloc, recoding, text) {
+        Ok(frame) => Ok(frame),
+        Err(RecodeError::OutOfMemory) => Err(AllocError),
+        Err(_) => Ok(Vec::new(alloc)),
+    }
+}
+
+// The frame of the response of format error in the place of another one, or nothing.
 fn format_error_frame(
     alloc: Global,
     recoding: &Recoding,
@@ -65,13 +72,9 @@ fn format_error_frame(
 ) -> Result<Vec<u8>, AllocError>
     ensures { IfOk result (λ v. IsInstead FormatError recoding.now message.now v.items) }
 {
-    let Some(text) = format_error_of(alloc, recoding.header, message)? else {
-        return Ok(Vec::new(alloc));
-    };
-    match recode_message(alloc, recoding, &text) {
-        Ok(frame) => Ok(frame),
-        Err(RecodeError::OutOfMemory) => Err(AllocError),
-        Err(_) => Ok(Vec::new(alloc)),
+    match format_error_of(alloc, recoding.header, message)? {
+        Some(text) => frame_or_nothing(alloc, recoding, &text),
+        None => Ok(Vec::new(alloc)),
     }
 }
 

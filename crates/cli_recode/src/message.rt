@@ -86,7 +86,11 @@ fn respell(
 }
 
 // A text after a header.
-pub(crate) fn after_header(alloc: Global, header: &[u8], text: Vec<u8>) -> Result<Vec<u8>, AllocError>
+pub(crate) fn after_header(
+    alloc: Global,
+    header: &[u8],
+    text: Vec<u8>,
+) -> Result<Vec<u8>, AllocError>
     ensures { IfOk result (λ v. v.items ≡ header.now ++ text.items) }
 {
     if header.is_empty() {

@@ -113,15 +113,17 @@ fn recode_messages<E: Write>(
 }
 
 impl Recoder {
-    ghost use Rattle.std.specs.Prelude.{◌≡◌, ◌||◌, IfOk, false, length};
+    ghost use Rattle.std.specs.Prelude.{◌≡◌, ◌||◌, [], IfOk, false, length};
+    ghost use Rattle.cli_recode.specs.declared.message.Recoding.{Recoding};
     ghost use Rattle.dialect_frame.specs.Stream.{begun};
-    ghost use Rattle.cli_recode.specs.Progress.{IsQuiet, IsQuietStep, RecodesPiece};
+    ghost use Rattle.cli_recode.specs.Progress.{IsAfter, IsQuiet, IsQuietStep, RecodesPiece};
     ghost use Rattle.cli_recode.specs.Streams.{is_cut};
 
     /// A recoder of a stream with frames of this form, of which nothing has come yet.
     pub fn new(alloc: Global, form: Frame) -> Recoder
         ensures framer { result.framer ≡ begun form }
         ensures refused { result.refused ≡ false }
+        ensures begun { (job : Recoding) → IsAfter form job [] [] [] result }
     {
         Recoder {
             framer: Framer::new(alloc, form),

@@ -17,20 +17,31 @@ pub record IsReadSo {E : Type 0} (form : Frame) (job : Recoding) (unread : Optio
 abbrev pub IsReadOrBroken : {E : Type 0} → Frame → Recoding → Option (List ℕ) → List ℕ → List ℕ → ReadSide E → Type 0
 IsReadOrBroken form job unread bytes out s = IsReadSo form job unread bytes out s ⊎ (s.flow.broken ≡ true)
 
--- a step takes bytes from the reader inside, and gives nothing yet
-abbrev pub StepsOn : {E X F : Type 0} → Option (List ℕ) → ReadSide E → Option (List ℕ) → ReadSide E → Result X F → Type 0
-StepsOn unread s left t result =
+-- bytes are taken from the reader inside, and nothing is given yet
+abbrev pub Steps : {E : Type 0} → Option (List ℕ) → ReadSide E → Option (List ℕ) → ReadSide E → Type 0
+Steps unread s left t =
     (form : Frame) (job : Recoding) (bytes out : List ℕ) → IsReadSo form job unread bytes out s
-    → (taken : List ℕ) × Consumes unread left taken
-    × MatchResult result (λ _. IsReadSo form job left (bytes ++ taken) out t) (λ _. IsReadOrBroken form job left (bytes ++ taken) out t)
+    → (taken : List ℕ) × Consumes unread left taken × IsReadSo form job left (bytes ++ taken) out t
 
--- a read takes bytes from the reader inside, and gives the first ones of a buffer
+-- the same, unless memory runs out
+abbrev pub StepsOrBreaks : {E : Type 0} → Option (List ℕ) → ReadSide E → Option (List ℕ) → ReadSide E → Type 0
+StepsOrBreaks unread s left t =
+    (form : Frame) (job : Recoding) (bytes out : List ℕ) → IsReadSo form job unread bytes out s
+    → (taken : List ℕ) × Consumes unread left taken × IsReadOrBroken form job left (bytes ++ taken) out t
+
+abbrev pub StepsOn : {E X F : Type 0} → Option (List ℕ) → ReadSide E → Option (List ℕ) → ReadSide E → Result X F → Type 0
+StepsOn unread s left t result = MatchResult result (λ _. Steps unread s left t) (λ _. StepsOrBreaks unread s left t)
+
+-- bytes are taken from the reader inside, and these are given
+abbrev pub Gives : {E : Type 0} → Option (List ℕ) → ReadSide E → Option (List ℕ) → ReadSide E → List ℕ → Type 0
+Gives unread s left t given =
+    (form : Frame) (job : Recoding) (bytes out : List ℕ) → IsReadSo form job unread bytes out s
+    → (taken : List ℕ) × Consumes unread left taken × IsReadSo form job left (bytes ++ taken) (out ++ given) t
+
+-- a read gives the first bytes of a buffer, or nothing after an error
 abbrev pub ReadsOn : {E F : Type 0} → Option (List ℕ) → ReadSide E → Option (List ℕ) → ReadSide E → Result ℕ F → List ℕ → Type 0
 ReadsOn unread s left t result buf =
-    (form : Frame) (job : Recoding) (bytes out : List ℕ) → IsReadSo form job unread bytes out s
-    → (taken : List ℕ) × Consumes unread left taken
-    × MatchResult result (λ n. IsReadSo form job left (bytes ++ taken) (out ++ take n buf) t)
-    (λ _. IsReadOrBroken form job left (bytes ++ taken) out t)
+    MatchResult result (λ n. Gives unread s left t (take n buf)) (λ _. StepsOrBreaks unread s left t)
 
 -- all was given
 abbrev pub IsEnd : {E : Type 0} → ReadSide E → Type 0

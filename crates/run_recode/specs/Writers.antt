@@ -12,17 +12,29 @@ pub record IsWrittenSo {E : Type 0} (form : Frame) (job : Recoding) (bytes out :
   pub same : arc_value s.recoding ≡ job
   pub handed : IsHandedOn form job bytes out [] s.flow
 
--- A write takes all of a buffer, or nothing; and writes inside what waited.
-abbrev pub WritesOn : {E F : Type 0} → Option (List ℕ) → WriteSide E → Option (List ℕ) → WriteSide E → Result ℕ F → List ℕ → Type 0
-WritesOn written s now t result buf =
+-- these bytes are taken, and what waited is written inside
+abbrev pub Takes : {E : Type 0} → Option (List ℕ) → WriteSide E → Option (List ℕ) → WriteSide E → List ℕ → Type 0
+Takes written s now t buf =
     (form : Frame) (job : Recoding) (bytes out : List ℕ) → IsWrittenSo form job bytes out s
-    → (sent : List ℕ) × Appends written now sent
-    × MatchResult result (λ n. (n ≡ length buf) × IsWrittenSo form job (bytes ++ buf) (out ++ sent) t)
-    (λ _. IsWrittenSo form job bytes (out ++ sent) t ⊎ (t.flow.broken ≡ true))
+    → (sent : List ℕ) × Appends written now sent × IsWrittenSo form job (bytes ++ buf) (out ++ sent) t
 
--- a flush writes inside what waits, and all of it if it succeeds
-abbrev pub FlushesOn : {E X F : Type 0} → Option (List ℕ) → WriteSide E → Option (List ℕ) → WriteSide E → Result X F → Type 0
-FlushesOn written s now t result =
+-- the first of what waits is written inside
+abbrev pub Sends : {E : Type 0} → Option (List ℕ) → WriteSide E → Option (List ℕ) → WriteSide E → Type 0
+Sends written s now t =
     (form : Frame) (job : Recoding) (bytes out : List ℕ) → IsWrittenSo form job bytes out s
     → (sent : List ℕ) × Appends written now sent × IsWrittenSo form job bytes (out ++ sent) t
-    × MatchResult result (λ _. t.flow.queue ≡ []) (λ _. Unit)
+
+-- the same, unless memory runs out
+abbrev pub SendsOrBreaks : {E : Type 0} → Option (List ℕ) → WriteSide E → Option (List ℕ) → WriteSide E → Type 0
+SendsOrBreaks written s now t =
+    (form : Frame) (job : Recoding) (bytes out : List ℕ) → IsWrittenSo form job bytes out s
+    → (sent : List ℕ) × Appends written now sent × (IsWrittenSo form job bytes (out ++ sent) t ⊎ (t.flow.broken ≡ true))
+
+-- a write takes all of a buffer, or nothing after an error
+abbrev pub WritesOn : {E F : Type 0} → Option (List ℕ) → WriteSide E → Option (List ℕ) → WriteSide E → Result ℕ F → List ℕ → Type 0
+WritesOn written s now t result buf =
+    MatchResult result (λ n. (n ≡ length buf) × Takes written s now t buf) (λ _. SendsOrBreaks written s now t)
+
+-- a flush writes what waits, and all of it if it succeeds
+abbrev pub FlushesOn : {E X F : Type 0} → Option (List ℕ) → WriteSide E → Option (List ℕ) → WriteSide E → Result X F → Type 0
+FlushesOn written s now t result = Sends written s now t × MatchResult result (λ _. t.flow.queue ≡ []) (λ _. Unit)

@@ -10,8 +10,9 @@ ghost use Rattle.run_recode.specs.Writers.{IsWrittenSo};
 use crate::reader::RecodedReader;
 use crate::writer::RecodedWriter;
 use cli_io::IoError;
-use cli_recode::{Instead, Plan, ProfileLoadError, Recoding, TwoProfiles, Way};
-use cli_recode::{plan_of, two_profiles_at};
+use cli_recode::{
+    Instead, Plan, ProfileLoadError, Recoding, TwoProfiles, Way, plan_of, two_profiles_at,
+};
 use dialect_toml::Frame;
 use iso_dialect::Peer;
 use std::alloc::{AllocError, Global};

@@ -1,10 +1,10 @@
 //! A reader that recodes.
 
-ghost use Rattle.std.specs.Prelude.{◌≡◌, ◌<◌, [], ℕ, List, None, Option, IfOk, IfSome, false, length};
+ghost use Rattle.std.specs.Prelude.{◌≡◌, ◌<◌, [], ℕ, List, None, Option, IfOk, IfSome, OnErr, false, length, take};
 ghost use Rattle.std.specs.Arc.{arc_value};
 ghost use Rattle.std.specs.Io.{ReadsAtMost};
-ghost use Rattle.std.specs.Io.KnownBytes.{ReadConsumes};
-ghost use Rattle.run_recode.specs.Flows.{known_without};
+ghost use Rattle.std.specs.Io.KnownBytes.{Consumes, Keeps, ReadConsumes};
+ghost use Rattle.run_recode.specs.Flows.{IsOver, known_without};
 ghost use Rattle.run_recode.specs.Readers.{IsEnd, IsReadSo, ReadsOn, StepsOn};
 
 use crate::flow::Flow;
@@ -41,6 +41,21 @@ impl<E: Drop> Drop for ReadSide<E> {
 }
 
 impl<E: Write> ReadSide<E> {
+    // Reads once inside; nothing after a bad length, which ends a stream.
+    fn read_inside<R: Read>(&self, inner: &mut R, buf: &mut [u8]) -> io::Result<usize>
+        ensures bound { ReadsAtMost result buf.new }
+        ensures taken { IfOk result (λ n.
+            Consumes (R.remaining inner.old) (R.remaining inner.new) (take n buf.new)) }
+        ensures kept { OnErr result (Keeps (R.remaining inner.old) (R.remaining inner.new)) }
+        ensures over { IfOk result (λ n. n ≡ 0 → 0 < length buf.new
+            → IsOver (R.remaining inner.new) self.now.flow) }
+    {
+        if self.flow.recoder.failed() {
+            return Ok(0);
+        }
+        inner.read(buf)
+    }
+
     // Reads once inside, where nothing waits and the stream has not ended. `buf` has room for that.
     fn advance<R: Read>(&mut self, inner: &mut R, buf: &mut [u8]) -> io::Result<()>
         requires room { 0 < length buf.old }
@@ -52,18 +67,15 @@ impl<E: Write> ReadSide<E> {
         if self.flow.broken {
             return Err(io::Error::from(ErrorKind::OutOfMemory));
         }
-        let count = if self.flow.recoder.failed() {
-            0
-        } else {
-            inner.read(buf)?
-        };
+        let count = self.read_inside(inner, buf)?;
         if count == 0 {
             self.flow.end(self.alloc, &self.recoding, &mut self.told)?;
             self.ended = true;
             return Ok(());
         }
         let piece = &buf[..count];
-        self.flow.feed(self.alloc, &self.recoding, piece, &mut self.told)?;
+        self.flow
+            .feed(self.alloc, &self.recoding, piece, &mut self.told)?;
         Ok(())
     }
 

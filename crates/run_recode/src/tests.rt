@@ -30,6 +30,7 @@ const PROFILE: &str = r#"
 // The message 0800 with the fields 7, 11 and 41, by hand, in both spellings: 26 bytes packed and 44 in ASCII.
 const PACKED: &[u8] =
     b"\x00\x1a\x08\x00\x02\x20\x00\x00\x00\x80\x00\x00\x12\x01\x04\x15\x30\x00\x00\x01TERM0001";
+
 const ASCII: &[u8] = b"00440800022000000080000012010415300000\x301TERM0001";
 
 // A frame of two bytes that are no message.
@@ -37,6 +38,7 @@ const BAD: &[u8] = b"\x00\x02\x99\x99";
 
 // The response 0110 with the fields 7, 11, 38, 39 and 41, and the response of format error in its place.
 const UNWRITABLE: &[u8] = b"00520110022000000680000012010415300000\x301ABC12300TERM0001";
+
 const REFUSED: &[u8] =
     b"\x00\x1c\x01\x10\x02\x20\x00\x00\x02\x80\x00\x00\x12\x01\x04\x15\x30\x00\x00\x0130TERM0001";
 
@@ -168,7 +170,14 @@ fn ends_are_told(rt: HostRuntime) -> Result<(), Fail> {
     let got = read(alloc, 0, joined(alloc, &[PACKED])?, 9, 64, &mut told)?;
     assert!(rt; got.as_slice() == ASCII);
     assert!(rt; told.is_empty());
-    let got = read(alloc, 0, joined(alloc, &[PACKED, b"\x00"])?, 9, 64, &mut told)?;
+    let got = read(
+        alloc,
+        0,
+        joined(alloc, &[PACKED, b"\x00"])?,
+        9,
+        64,
+        &mut told,
+    )?;
     assert!(rt; got.as_slice() == joined(alloc, &[ASCII, b"0"])?.as_slice());
     assert!(rt; told.starts_with(b"cardswitch: there: after message 1: found 1 bytes"));
     let mut told = Vec::new(alloc);
@@ -185,10 +194,19 @@ fn headers_stay(rt: HostRuntime) -> Result<(), Fail> {
     let mut told = Vec::new(alloc);
     let bytes = joined(
         alloc,
-        &[b"\x00\x1cHH", &PACKED[2..], b"\x00\x04hh\x99\x99", b"\x00\x01h", b"\x00\x02ab"],
+        &[
+            b"\x00\x1cHH",
+            &PACKED[2..],
+            b"\x00\x04hh\x99\x99",
+            b"\x00\x01h",
+            b"\x00\x02ab",
+        ],
     )?;
     let got = read(alloc, 2, bytes, 7, 5, &mut told)?;
-    let wanted = joined(alloc, &[b"0046HH", &ASCII[4..], b"0002hh", b"0001h", b"0002ab"])?;
+    let wanted = joined(
+        alloc,
+        &[b"0046HH", &ASCII[4..], b"0002hh", b"0001h", b"0002ab"],
+    )?;
     assert!(rt; got.as_slice() == wanted.as_slice());
     Ok(())
 }
@@ -269,7 +287,14 @@ fn frames_are_written_in_any_pieces(rt: HostRuntime) -> Result<(), Fail> {
         let (got, _) = written(alloc, 0, with, &bytes, each, taking_five(alloc, 1_000))?;
         assert!(rt; got.as_slice() == left_out.as_slice());
     }
-    let (got, silent) = written(alloc, 0, Instead::Nothing, ASCII, 9, taking_five(alloc, 1_000))?;
+    let (got, silent) = written(
+        alloc,
+        0,
+        Instead::Nothing,
+        ASCII,
+        9,
+        taking_five(alloc, 1_000),
+    )?;
     assert!(rt; silent && got.as_slice() == PACKED);
     Ok(())
 }
@@ -288,7 +313,9 @@ fn headers_are_written(rt: HostRuntime) -> Result<(), Fail> {
 #[test]
 fn bytes_pass_without_a_profile(rt: HostRuntime) -> Result<(), Fail> {
     let alloc = rt.alloc();
-    let mut reader: RecodedReader<&[u8], std::io::Sink> = RecodedReader::plain(b"no frames".as_slice());
+    let mut reader: RecodedReader<&[u8], std::io::Sink> = RecodedReader::plain(
+        b"no frames".as_slice(),
+    );
     let mut all = Vec::new(alloc);
     reader.read_to_end(&mut all)?;
     assert!(rt; all.as_slice() == b"no frames".as_slice());

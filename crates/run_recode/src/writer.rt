@@ -48,7 +48,8 @@ impl<E: Write> WriteSide<E> {
             return Err(io::Error::from(ErrorKind::InvalidData));
         }
         self.flow.queue.write_to(inner)?;
-        self.flow.feed(self.alloc, &self.recoding, buf, &mut self.told)?;
+        self.flow
+            .feed(self.alloc, &self.recoding, buf, &mut self.told)?;
         Ok(buf.len())
     }
 
@@ -86,12 +87,7 @@ impl<W: Write + Drop, E: Write + Drop> RecodedWriter<W, E> {
     }
 
     /// A writer to `inner`. What is not recoded is told to `told`.
-    pub fn new(
-        alloc: Global,
-        recoding: Arc<Recoding>,
-        inner: W,
-        told: E,
-    ) -> RecodedWriter<W, E>
+    pub fn new(alloc: Global, recoding: Arc<Recoding>, inner: W, told: E) -> RecodedWriter<W, E>
         ensures inner { result.inner ≡ inner }
         ensures begun { IfSome result.side (IsWrittenSo own_form (arc_value recoding) [] []) }
         ensures side { (result.side ≡ None) → ⊥ }
