@@ -1,6 +1,6 @@
 -- What of a stream was recoded and handed on.
 -- for: flow::Flow::new, flow::Flow::feed, flow::Flow::end
-use Rattle.std.proofs.Common.{◌≡◌, ◌∙◌, sym, ap, refl, subst, arith, ℕ, ◌<◌, Bool, true, false, List, [], ◌∷◌, ◌++◌, length, append-nil, append_assoc}
+use Rattle.std.proofs.Common.{◌≡◌, ◌∙◌, sym, ap, refl, arith, ℕ, ◌<◌, false, List, [], ◌∷◌, ◌++◌, length, append-nil, append_assoc}
 use Rattle.dialect_toml.specs.declared.frame.Frame.{Frame}
 use Rattle.cli_recode.specs.declared.message.Recoding.{Recoding}
 use Rattle.cli_recode.specs.Progress.{IsAfter, RecodesPiece}

@@ -1,17 +1,15 @@
 -- What a reader takes and gives.
 -- for: reader::ReadSide::advance, reader::ReadSide::read
-use Rattle.std.proofs.Common.{◌≡◌, ◌∙◌, ◌⊎◌, inl, inr, sym, ap, subst, ℕ, Bool, true, false, List, [], ◌++◌, Option, take, drop, append-nil, append_assoc, take-append-drop}
+use Rattle.std.proofs.Common.{◌≡◌, ◌∙◌, ◌⊎◌, Err, Ok, OnErr, Result, inl, inr, sym, ap, subst, ℕ, Bool, true, false, List, [], ◌++◌, Option, take, drop, append-nil, append_assoc, take-append-drop}
 use Rattle.std.specs.Arc.{arc_value}
 use Rattle.std.specs.Io.KnownBytes.{Consumes, IsAtEnd, Keeps}
-use Rattle.std.proofs.KnownBytes.{Consumes-kept, Consumes-nil, Consumes-trans, Keeps-refl}
-use Rattle.sw_frame.specs.Stream.{State}
+use Rattle.std.proofs.KnownBytes.{Consumes-kept, Consumes-nil, Consumes-trans}
 use Rattle.dialect_toml.specs.declared.frame.Frame.{Frame}
 use Rattle.cli_recode.specs.declared.message.Recoding.{Recoding}
 use Rattle.cli_recode.specs.declared.recoder.Recoder.{Recoder}
-use Rattle.run_recode.specs.declared.flow.Flow.{Flow}
 use Rattle.run_recode.specs.declared.reader.ReadSide.{ReadSide}
 use Rattle.run_recode.specs.Flows.{FeedsOn, IsHandedOn, IsOver, tail_at}
-use Rattle.run_recode.specs.Readers.{Gives, IsReadOrBroken, IsReadSo, Steps, StepsOrBreaks}
+use Rattle.run_recode.specs.Readers.{Gives, IsNew, IsReadOrBroken, IsReadSo, Steps, StepsOrBreaks}
 use Rattle.run_recode.proofs.Flows.{ended, handed_more}
 
 never : {P : Type 0} (b : Bool) → b ≡ false → b ≡ true → P
@@ -24,11 +22,11 @@ nothing u v k = Consumes-kept u u v [] (Consumes-nil u) k
 
 -- nothing is changed but the reader inside, which kept its bytes
 pub stayed : {E : Type 0} (u v : Option (List ℕ)) (s t : ReadSide E) → Keeps u v → s.ended ≡ false → t ≡ s → StepsOrBreaks u s v t
-stayed u v s t k open same form job bytes out h = (
+stayed u v s t k is_open same form job bytes out h = (
   [],
   nothing u v k,
   inl (rw same (subst (λ (z : List ℕ). IsReadSo form job v z out s) (sym (append-nil bytes))
-      (record { same = h.same; handed = h.handed; over = λ e. never s.ended open e }))),
+      (record { same = h.same; handed = h.handed; over = λ e. never s.ended is_open e }))),
 )
 
 -- nothing more comes of a stream that is broken
@@ -39,8 +37,8 @@ broke u v s t taken k b form job bytes out h = (taken, k, inr b)
 pub over_step : {E : Type 0} (u v : Option (List ℕ)) (s t : ReadSide E) (taken : List ℕ) → Consumes u v taken → taken ≡ [] → IsOver v s.flow
     → s.ended ≡ false → s.flow.queue ≡ [] → t.recoding ≡ s.recoding → t.ended ≡ true → t.flow.recoder ≡ s.flow.recoder
     → t.flow.queue ≡ tail_at true s.flow.recoder.framer.has → Steps u s v t
-over_step u v s t taken k none over open empty job_same is_ended same waits form job bytes out h =
-    let before : IsHandedOn form job bytes out [] s.flow = subst (λ b. IsHandedOn form job bytes out (tail_at b s.flow.recoder.framer.has) s.flow) open h.handed in
+over_step u v s t taken k none over is_open empty job_same is_ended same waits form job bytes out h =
+    let before : IsHandedOn form job bytes out [] s.flow = subst (λ b. IsHandedOn form job bytes out (tail_at b s.flow.recoder.framer.has) s.flow) is_open h.handed in
     let after : IsHandedOn form job bytes out (tail_at true s.flow.recoder.framer.has) t.flow =
     ended form job bytes out (tail_at true s.flow.recoder.framer.has) s.flow t.flow empty same waits before in (
       [],
@@ -56,9 +54,9 @@ over_step u v s t taken k none over open empty job_same is_ended same waits form
 -- a piece was taken and recoded
 pub fed_step : {E : Type 0} (u v : Option (List ℕ)) (s t : ReadSide E) (piece : List ℕ) → Consumes u v piece → s.ended ≡ false
     → t.recoding ≡ s.recoding → t.ended ≡ s.ended → FeedsOn (arc_value s.recoding) s.flow piece t.flow → Steps u s v t
-fed_step u v s t piece k open job_same ended_same goes form job bytes out h =
-    let still : t.ended ≡ false = ended_same ∙ open in
-    let before : IsHandedOn form job bytes out [] s.flow = subst (λ b. IsHandedOn form job bytes out (tail_at b s.flow.recoder.framer.has) s.flow) open h.handed in
+fed_step u v s t piece k is_open job_same ended_same goes form job bytes out h =
+    let still : t.ended ≡ false = ended_same ∙ is_open in
+    let before : IsHandedOn form job bytes out [] s.flow = subst (λ b. IsHandedOn form job bytes out (tail_at b s.flow.recoder.framer.has) s.flow) is_open h.handed in
     let after : IsHandedOn form job (bytes ++ piece) out [] t.flow = (subst (λ (j : Recoding). FeedsOn j s.flow piece t.flow) h.same goes) form bytes out before in (
       piece,
       k,
@@ -106,3 +104,11 @@ given u v s t r n first one is job_same ended_same same rest form job bytes out 
         over = λ e. subst (λ (x : Recoder). IsAtEnd v ⊎ (x.framer.has.failed ≡ true)) (sym same) (a.2.over (sym ended_same ∙ e));
       },
     )
+
+pub begun_as : {E : Type 0} (f f' : Frame) (j j' : Recoding) (side : Option (ReadSide E)) → f ≡ f' → j ≡ j' → IsNew f j side → IsNew f' j' side
+begun_as f f' j j' side one other h = subst (λ (x : Frame). IsNew x j' side) one (subst (λ (x : Recoding). IsNew f x side) other h)
+
+-- what holds after any result holds after an error
+pub on_err : {T F : Type 0} (P : Type 0) (r : Result T F) → P → OnErr r P
+on_err P (Ok x) h = tt
+on_err P (Err e) h = h

@@ -2,12 +2,11 @@
 -- for: writer::WriteSide::write, writer::WriteSide::flush
 use Rattle.std.proofs.Common.{◌≡◌, ◌∙◌, inl, inr, sym, ap, refl, subst, ℕ, true, List, [], ◌++◌, Option, append-nil}
 use Rattle.std.specs.Arc.{arc_value}
-use Rattle.std.specs.Io.KnownBytes.{Appends, Keeps}
+use Rattle.std.specs.Io.KnownBytes.{Keeps}
 use Rattle.std.proofs.KnownBytes.{Appends-kept, Appends-nil}
-use Rattle.dialect_toml.specs.declared.frame.Frame.{Frame}
 use Rattle.cli_recode.specs.declared.message.Recoding.{Recoding}
 use Rattle.run_recode.specs.declared.writer.WriteSide.{WriteSide}
-use Rattle.run_recode.specs.Flows.{FeedsOn, IsHandedOn}
+use Rattle.run_recode.specs.Flows.{FeedsOn}
 use Rattle.run_recode.specs.Queues.{HandsOn}
 use Rattle.run_recode.specs.Writers.{IsWrittenSo, Sends, SendsOrBreaks, Takes}
 use Rattle.run_recode.proofs.Flows.{handed_more}

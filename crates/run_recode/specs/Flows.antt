@@ -1,6 +1,6 @@
 -- How far a stream was recoded and handed on.
-use Rattle.std.specs.Prelude.{◌≡◌, ◌⊎◌, ℕ, Bool, true, false, List, [], ◌∷◌, ◌++◌, length, take, Option, Some, None, Result, MatchResult}
-use Rattle.std.specs.Io.KnownBytes.{Appends, Consumes, IsAtEnd}
+use Rattle.std.specs.Prelude.{◌≡◌, ◌⊎◌, ℕ, Bool, true, false, List, [], ◌∷◌, ◌++◌, Option, Some, None}
+use Rattle.std.specs.Io.KnownBytes.{IsAtEnd}
 use Rattle.sw_frame.specs.Stream.{State}
 use Rattle.dialect_toml.specs.declared.frame.Frame.{Frame}
 use Rattle.cli_recode.specs.declared.message.Recoding.{Recoding}

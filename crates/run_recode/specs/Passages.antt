@@ -1,5 +1,5 @@
 -- How both directions towards another system are recoded.
-use Rattle.std.specs.Prelude.{◌≡◌, ⊤, ℕ, List, Option, Some, None}
+use Rattle.std.specs.Prelude.{◌≡◌, ℕ, List, Option, Some, None}
 use Rattle.std.specs.Arc.{arc_value}
 use Rattle.iso_dialect.specs.declared.profile.Peer.{Peer}
 use Rattle.iso_dialect.specs.declared.profile.Peer.TheVariants.{Acquirer, Host}

@@ -1,5 +1,5 @@
 -- What a writer that recodes has written.
-use Rattle.std.specs.Prelude.{◌≡◌, ◌⊎◌, ℕ, true, List, [], ◌++◌, length, Option, Result, MatchResult}
+use Rattle.std.specs.Prelude.{◌≡◌, ◌⊎◌, ℕ, true, List, [], ◌++◌, length, Option, Result, IfOk, OnErr, OnOk}
 use Rattle.std.specs.Arc.{arc_value}
 use Rattle.std.specs.Io.KnownBytes.{Appends}
 use Rattle.dialect_toml.specs.declared.frame.Frame.{Frame}
@@ -33,8 +33,8 @@ SendsOrBreaks written s now t =
 -- a write takes all of a buffer, or nothing after an error
 abbrev pub WritesOn : {E F : Type 0} → Option (List ℕ) → WriteSide E → Option (List ℕ) → WriteSide E → Result ℕ F → List ℕ → Type 0
 WritesOn written s now t result buf =
-    MatchResult result (λ n. (n ≡ length buf) × Takes written s now t buf) (λ _. SendsOrBreaks written s now t)
+    IfOk result (λ n. (n ≡ length buf) × Takes written s now t buf) × OnErr result (SendsOrBreaks written s now t)
 
 -- a flush writes what waits, and all of it if it succeeds
 abbrev pub FlushesOn : {E X F : Type 0} → Option (List ℕ) → WriteSide E → Option (List ℕ) → WriteSide E → Result X F → Type 0
-FlushesOn written s now t result = Sends written s now t × MatchResult result (λ _. t.flow.queue ≡ []) (λ _. Unit)
+FlushesOn written s now t result = Sends written s now t × OnOk result (t.flow.queue ≡ [])

@@ -1,10 +1,10 @@
 //! Both directions towards another system.
 
-ghost use Rattle.std.specs.Prelude.{◌≡◌, [], List, Option, ℕ, IfNone, IfOk, IfSome, None, Ok};
+ghost use Rattle.std.specs.Prelude.{◌≡◌, [], IfNone, IfOk, IfSome, None, Ok};
 ghost use Rattle.std.specs.Arc.{arc_value};
 ghost use Rattle.cli_recode.specs.Recodings.{own_form};
 ghost use Rattle.run_recode.specs.Passages.{ArePassagesOf, IsPassageOf, instead_of, plain};
-ghost use Rattle.run_recode.specs.Readers.{IsReadSo};
+ghost use Rattle.run_recode.specs.Readers.{IsNew};
 ghost use Rattle.run_recode.specs.Writers.{IsWrittenSo};
 
 use crate::reader::RecodedReader;
@@ -73,8 +73,8 @@ pub fn reader_over<R: Read + Drop, E: Write + Drop>(
 ) -> Result<RecodedReader<R, E>, AllocError>
     ensures inner { IfOk result (λ r. r.inner ≡ inner) }
     ensures plain { IfNone passage.now (IfOk result (λ r. r.side ≡ None)) }
-    ensures begun { IfSome passage.now (λ p. IfOk result (λ r. IfSome r.side (λ s.
-        (unread : Option (List ℕ)) → IsReadSo p.form (arc_value p.recoding) unread [] [] s))) }
+    ensures begun { IfSome passage.now (λ p. IfOk result (λ r.
+        IsNew p.form (arc_value p.recoding) r.side)) }
 {
     match passage {
         None => Ok(RecodedReader::plain(inner)),

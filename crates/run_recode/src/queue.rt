@@ -1,7 +1,6 @@
 //! Bytes that wait to be handed on.
 
-ghost use Rattle.std.specs.Prelude.{◌≡◌, ◌++◌, ◌≤◌, [], List, ℕ, OnOk, drop, length, min, take};
-ghost use Rattle.std.specs.Io.KnownBytes.{Appends};
+ghost use Rattle.std.specs.Prelude.{◌≡◌, ◌<◌, [], OnOk, drop, false, length, min, take, true};
 ghost use Rattle.run_recode.specs.Queues.{HandsOn};
 
 use std::alloc::Global;
@@ -47,7 +46,8 @@ impl Queue {
 
     /// Whether none wait.
     pub fn is_empty(&self) -> bool
-        ensures { result ≡ true ↔ self.now ≡ [] }
+        ensures empty { result ≡ true → self.now ≡ [] }
+        ensures other { result ≡ false → 0 < length self.now }
     {
         self.done == self.bytes.len()
     }

@@ -1,11 +1,11 @@
 //! A reader that recodes.
 
-ghost use Rattle.std.specs.Prelude.{◌≡◌, ◌<◌, [], ℕ, List, None, Option, IfOk, IfSome, OnErr, false, length, take};
+ghost use Rattle.std.specs.Prelude.{◌≡◌, ◌<◌, [], None, IfOk, IfSome, OnErr, OnOk, false, length, take};
 ghost use Rattle.std.specs.Arc.{arc_value};
 ghost use Rattle.std.specs.Io.{ReadsAtMost};
 ghost use Rattle.std.specs.Io.KnownBytes.{Consumes, Keeps, ReadConsumes};
 ghost use Rattle.run_recode.specs.Flows.{IsOver, known_without};
-ghost use Rattle.run_recode.specs.Readers.{IsEnd, IsReadSo, ReadsOn, StepsOn};
+ghost use Rattle.run_recode.specs.Readers.{Gives, IsEnd, IsNew, ReadsOn, Steps, StepsOrBreaks};
 
 use crate::flow::Flow;
 use cli_recode::Recoding;
@@ -61,8 +61,10 @@ impl<E: Write> ReadSide<E> {
         requires room { 0 < length buf.old }
         requires empty { self.old.flow.queue ≡ [] }
         requires open { self.old.ended ≡ false }
-        ensures goes_on { StepsOn (R.remaining inner.old) self.old
-            (R.remaining inner.new) self.new result }
+        ensures steps { OnOk result (Steps (R.remaining inner.old) self.old
+            (R.remaining inner.new) self.new) }
+        ensures breaks { OnErr result (StepsOrBreaks (R.remaining inner.old) self.old
+            (R.remaining inner.new) self.new) }
     {
         if self.flow.broken {
             return Err(io::Error::from(ErrorKind::OutOfMemory));
@@ -82,8 +84,10 @@ impl<E: Write> ReadSide<E> {
     // Reads inside until something waits, and gives that.
     fn read<R: Read>(&mut self, inner: &mut R, buf: &mut [u8]) -> io::Result<usize>
         ensures bound { ReadsAtMost result buf.new }
-        ensures reads { ReadsOn (R.remaining inner.old) self.old
-            (R.remaining inner.new) self.new result buf.new }
+        ensures gives { IfOk result (λ n. Gives (R.remaining inner.old) self.old
+            (R.remaining inner.new) self.new (take n buf.new)) }
+        ensures breaks { OnErr result (StepsOrBreaks (R.remaining inner.old) self.old
+            (R.remaining inner.new) self.new) }
         ensures ends { IfOk result (λ n. n ≡ 0 → 0 < length buf.new
             → IsEnd self.new) }
     {
@@ -132,8 +136,7 @@ impl<R: Read + Drop, E: Write + Drop> RecodedReader<R, E> {
         told: E,
     ) -> RecodedReader<R, E>
         ensures inner { result.inner ≡ inner }
-        ensures begun { IfSome result.side (λ s. (unread : Option (List ℕ))
-            → IsReadSo form (arc_value recoding) unread [] [] s) }
+        ensures begun { IsNew form (arc_value recoding) result.side }
         ensures side { (result.side ≡ None) → ⊥ }
     {
         RecodedReader {

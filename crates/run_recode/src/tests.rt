@@ -76,6 +76,7 @@ struct Narrow {
     each: usize,
     fails_at: usize,
     has_failed: bool,
+    flushes: u8,
 }
 
 impl Write for Narrow {
@@ -90,6 +91,7 @@ impl Write for Narrow {
     }
 
     fn flush(&mut self) -> io::Result<()> {
+        self.flushes += 1;
         Ok(())
     }
 }
@@ -260,6 +262,9 @@ fn written(
     }
     drop(writer);
     let silent = told.is_empty();
+    if inner.flushes != 1 {
+        return Err(io::Error::from(ErrorKind::Other));
+    }
     Ok((inner.bytes, silent))
 }
 
@@ -269,6 +274,7 @@ fn taking_five(alloc: Global, fails_at: usize) -> Narrow {
         each: 5,
         fails_at,
         has_failed: false,
+        flushes: 0,
     }
 }
 

@@ -1,12 +1,12 @@
 //! A writer that recodes.
 
-ghost use Rattle.std.specs.Prelude.{◌≡◌, [], None, IfSome};
+ghost use Rattle.std.specs.Prelude.{◌≡◌, [], None, IfOk, IfSome, OnErr, OnOk, length};
 ghost use Rattle.std.specs.Arc.{arc_value};
 ghost use Rattle.std.specs.Io.{WritesAtMost};
 ghost use Rattle.std.specs.Io.KnownBytes.{Keeps, WriteAppends};
 ghost use Rattle.cli_recode.specs.Recodings.{own_form};
 ghost use Rattle.run_recode.specs.Flows.{known_without};
-ghost use Rattle.run_recode.specs.Writers.{FlushesOn, IsWrittenSo, WritesOn};
+ghost use Rattle.run_recode.specs.Writers.{FlushesOn, IsWrittenSo, Sends, SendsOrBreaks, Takes, WritesOn};
 
 use crate::flow::Flow;
 use cli_recode::{Recoding, own_form};
@@ -38,8 +38,11 @@ impl<E: Write> WriteSide<E> {
     // Writes what waits, and then takes all of a buffer.
     fn write<W: Write>(&mut self, inner: &mut W, buf: &[u8]) -> io::Result<usize>
         ensures bound { WritesAtMost result buf.now }
-        ensures writes { WritesOn (W.contents inner.old) self.old
-            (W.contents inner.new) self.new result buf.now }
+        ensures all { IfOk result (λ n. n ≡ length buf.now) }
+        ensures takes { OnOk result (Takes (W.contents inner.old) self.old
+            (W.contents inner.new) self.new buf.now) }
+        ensures breaks { OnErr result (SendsOrBreaks (W.contents inner.old) self.old
+            (W.contents inner.new) self.new) }
     {
         if self.flow.broken {
             return Err(io::Error::from(ErrorKind::OutOfMemory));
@@ -55,8 +58,9 @@ impl<E: Write> WriteSide<E> {
 
     // Writes what waits.
     fn flush<W: Write>(&mut self, inner: &mut W) -> io::Result<()>
-        ensures { FlushesOn (W.contents inner.old) self.old
-            (W.contents inner.new) self.new result }
+        ensures sends { Sends (W.contents inner.old) self.old
+            (W.contents inner.new) self.new }
+        ensures all { OnOk result (self.new.flow.queue ≡ []) }
     {
         self.flow.queue.write_to(inner)?;
         inner.flush()
