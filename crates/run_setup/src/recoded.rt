@@ -12,8 +12,9 @@ use cli_io::IoError;
 use cli_options::choice::RunOptions;
 use cli_recode::ProfileLoadError;
 use iso_dialect::Peer;
-use run_recode::{Edges, Passage, Passages, RecodedReader, RecodedWriter};
-use run_recode::{passages_at, reader_over, writer_over};
+use run_recode::{
+    Edges, Passage, Passages, RecodedReader, RecodedWriter, passages_at, reader_over, writer_over,
+};
 use std::alloc::Global;
 use std::fs::File;
 use std::io::{self, Stderr};
@@ -167,11 +168,7 @@ pub fn run_passages(
 }
 
 // Reads the profile file of a host, if it has one.
-fn check_host(
-    alloc: Global,
-    rt: &HostRuntime,
-    host: &cli_config::Host,
-) -> Result<(), SetupError>
+fn check_host(alloc: Global, rt: &HostRuntime, host: &cli_config::Host) -> Result<(), SetupError>
     ensures { IfErr result (IsProfileFault (wire_profile host.now.wire)) }
 {
     let Wire::Streams { profile, .. } = &host.wire else {
@@ -197,11 +194,7 @@ fn check_hosts(
 
 /// Reads the profile files that a configuration names, in the order in which a run reads them: that of the
 /// acquirer, and then those of the hosts.
-pub fn check_profiles(
-    alloc: Global,
-    rt: &HostRuntime,
-    config: &Config,
-) -> Result<(), SetupError>
+pub fn check_profiles(alloc: Global, rt: &HostRuntime, config: &Config) -> Result<(), SetupError>
     ensures { IfErr result (IsProfilesFault config.now) }
 {
     let _passages = acquirer_passages(alloc, rt, &config.run.profile, 0)?;
