@@ -14,7 +14,7 @@ use Rattle.cli_step.specs.declared.error.StepError.{StepError}
 use Rattle.cli_step.specs.declared.error.StepError.TheVariants as step
 use Rattle.cardswitch.specs.declared.error.JournalFault.TheVariants as fault
 use Rattle.cardswitch.specs.declared.error.RunError.{RunError}
-use Rattle.cardswitch.specs.declared.error.RunError.TheVariants.{BadLimit, Engine, Input, Journal, JournalFile, OutOfMemory}
+use Rattle.cardswitch.specs.declared.error.RunError.TheVariants.{BadLimit, Engine, Input, Journal, JournalFile, OutOfMemory, ProfileFile}
 use Rattle.cardswitch.specs.declared.error.RunError.TheVariants.{Read, Serve, SetUp, Step, Text, Write}
 use Rattle.run_switch.specs.declared.error.ServeError.{ServeError}
 use Rattle.run_switch.specs.declared.error.ServeError.TheVariants as serve
@@ -52,6 +52,7 @@ error_of_serve e = Serve e
 abbrev pub error_of_setup : SetupError → RunError
 error_of_setup setup.OutOfMemory = OutOfMemory
 error_of_setup (setup.BadLimit limit) = BadLimit limit
+error_of_setup (setup.Profile path cause) = ProfileFile path cause
 
 abbrev pub error_of_check : CheckError → RunError
 error_of_check check.OutOfMemory = OutOfMemory

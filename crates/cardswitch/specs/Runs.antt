@@ -1,6 +1,6 @@
 -- What `run` and `recover` have done, and why they end early. What a file holds no clause can say; the flow of a flow
 -- file is one that is checked.
-use Rattle.std.specs.Prelude.{◌≡◌, ◌≢◌, ◌<◌, ◌≤◌, ⊤, ℕ, Bool, true, false, List, Option, None, Some, Result, Ok, Err, IfOk}
+use Rattle.std.specs.Prelude.{◌≡◌, ◌≢◌, ◌<◌, ◌≤◌, ◌⊎◌, ⊤, ℕ, Bool, true, false, List, Option, None, Some, Result, Ok, Err, IfNone, IfOk}
 use Rattle.std.specs.Borrow.{Bor}
 use Rattle.sqlite_trees.specs.declared.store.Store.{Ghosts}
 use Rattle.flow_model.specs.declared.flow.Flow.{Flow}
@@ -27,6 +27,7 @@ use Rattle.run_input.specs.declared.frames.StreamEnd.TheVariants.{Whole}
 use Rattle.run_switch.specs.declared.error.ServeError.{ServeError}
 use Rattle.run_switch.specs.declared.error.ServeError.TheVariants as serve
 use Rattle.run_setup.specs.Plans.{PlainSetup, journal_of, limit_of, log_path_of, no_config, setup_of}
+use Rattle.run_setup.specs.Profiles.{IsHostProfileOf}
 use Rattle.sw_book.specs.Most.{max_limit}
 use Rattle.cardswitch.specs.Errors.{error_at}
 use Rattle.cardswitch.specs.Journals.{IsFound, IsFoundAt}
@@ -80,12 +81,22 @@ pub record AnsweredBy {S : Type 0} (files : Ghosts S) (flow : Flow) (o : RunOpti
   pub found : IsFound files (journal_of o c) journal
   pub served : Served setup.header setup.threads flow setup.sessions journal (sender_of_setup setup) setup.advices unread before after
 
+-- The same of what the streams of the run are read and written through: without a profile of the acquirer they are the streams
+-- themselves; what is read and written with one is said by `run_recode`.
+pub record AnsweredOver {S : Type 0} (files : Ghosts S) (flow : Flow) (o : RunOptions) (c : Config)
+    (unread before after : Option (List ℕ)) : Type 0 where
+  pub requests : Option (List ℕ)
+  pub earlier : Option (List ℕ)
+  pub responses : Option (List ℕ)
+  pub same : IfNone c.run.profile ((requests ≡ unread) × (earlier ≡ before) × (responses ≡ after))
+  pub answered : AnsweredBy files flow o c requests earlier responses
+
 -- the same, with the configuration of the file that `--config` names
 pub record Answered {S : Type 0} (files : Ghosts S) (flow : Flow) (o : RunOptions)
     (unread before after : Option (List ℕ)) : Type 0 where
   pub config : Config
   pub stated : IsConfigAt o.config config
-  pub answered : AnsweredBy files flow o config unread before after
+  pub answered : AnsweredOver files flow o config unread before after
 
 -- `recover` has finished what the journal of the file has unfinished, and printed its lines
 pub record Recovered {S : Type 0} (files : Ghosts S) (flow : Flow) (path : List ℕ)
@@ -149,11 +160,12 @@ IsLogFault path (error.LogFile p cause) = p ≡ path
 IsLogFault path error.OutOfMemory = ⊤
 IsLogFault path _ = ⊥
 
--- The faults of `run` by this configuration, the first of which it reports: its limit, its mistakes, its log, its journal's file,
--- and what is done with the journal. Nothing is written before that, nor under a limit that is too great.
+-- The faults of `run` by this configuration, the first of which it reports: its limit, its hosts' profile files, its mistakes, its log,
+-- its journal's file, and what is done with the journal. Nothing is written before that, nor under a limit that is too great.
 abbrev pub IsRunFaultBy : RunOptions → Config → Option (List ℕ) → Option (List ℕ) → RunError → Type 0
 IsRunFaultBy o c before after (error.BadLimit limit) =
     (limit ≡ limit_of o c) × (max_limit < limit) × (after ≡ before)
+IsRunFaultBy o c before after (error.ProfileFile path cause) = (limit_of o c ≤ max_limit) × IsHostProfileOf c path × (after ≡ before)
 IsRunFaultBy o c before after (error.SetUp e) =
     (limit_of o c ≤ max_limit) × IsMistake o.config c e × (after ≡ before)
 IsRunFaultBy o c before after (error.LogFile path cause) =
@@ -166,11 +178,23 @@ IsRunFaultBy o c before after (error.Serve e) = (limit_of o c ≤ max_limit) × 
 IsRunFaultBy o c before after error.OutOfMemory = max_limit < limit_of o c → after ≡ before
 IsRunFaultBy o c before after _ = ⊥
 
+-- the acquirer's profile file is not taken, and nothing is written
+abbrev pub IsAcquirerFault : Config → Option (List ℕ) → Option (List ℕ) → RunError → Type 0
+IsAcquirerFault c before after (error.ProfileFile path cause) = (c.run.profile ≡ Some path) × (after ≡ before)
+IsAcquirerFault c before after error.OutOfMemory = after ≡ before
+IsAcquirerFault c before after _ = ⊥
+
+-- that fault, or one of what the streams of the run are read and written through
+abbrev pub IsRunFaultOver : RunOptions → Config → Option (List ℕ) → Option (List ℕ) → RunError → Type 0
+IsRunFaultOver o c before after e =
+    IsAcquirerFault c before after e
+    ⊎ ((earlier later : Option (List ℕ)) × IfNone c.run.profile ((earlier ≡ before) × (later ≡ after)) × IsRunFaultBy o c earlier later e)
+
 -- The faults of `run`: its flow file, its configuration file, and those that its configuration leaves.
 abbrev pub IsRunFault : RunOptions → Option (List ℕ) → Option (List ℕ) → RunError → Type 0
 IsRunFault o before after (error.FlowFile path cause) = (path ≡ o.flow.now) × (after ≡ before)
 IsRunFault o before after (error.ConfigFile path cause) = (text_of o.config ≡ Some path) × (after ≡ before)
-IsRunFault o before after e = (c : Config) × IsConfigAt o.config c × IsRunFaultBy o c before after e
+IsRunFault o before after e = (c : Config) × IsConfigAt o.config c × IsRunFaultOver o c before after e
 
 -- the same of `recover`, which has no limit of its own
 abbrev pub IsRecoverFault : RecoverOptions → Option (List ℕ) → Option (List ℕ) → RunError → Type 0

@@ -11,6 +11,7 @@ use cli_check::check_set_up;
 use cli_config::Config;
 use cli_options::choice::CheckOptions;
 use flow_model::Flow;
+use run_setup::check_profiles;
 use std::alloc::Global;
 
 /// Refuses the flow and the configuration of a run that has a configuration file, if they have mistakes. A run
@@ -32,12 +33,14 @@ pub fn check_run(
     Ok(check_set_up(alloc, flow_path, config_path, flow, config)?)
 }
 
-/// Looks for mistakes in a flow file and a configuration file, which are its error. It prints nothing.
+/// Looks for mistakes in a flow file, a configuration file and the profile files that this names, which are its error.
+/// It prints nothing.
 pub fn check(alloc: Global, rt: &HostRuntime, options: &CheckOptions<'_>) -> Result<(), RunError>
     ensures checked { OnOk result (IsCheckDone options.now) }
     ensures refused { IfErr result (IsCheckFault options.now) }
 {
     let flow = flow_at(alloc, rt, options.flow)?;
     let config = config_for(alloc, rt, options.config)?;
+    check_profiles(alloc, rt, &config)?;
     Ok(check_set_up(alloc, options.flow, options.config, &flow, &config)?)
 }

@@ -9,6 +9,7 @@ use cli_check::CheckError;
 use cli_encode::{EncodeError, TextError};
 use cli_flows::FlowsError;
 use cli_io::IoError;
+use cli_recode::ProfileLoadError;
 use cli_step::StepError;
 use journal_store::JournalError;
 use run_setup::{ConfigFileError, SetupError};
@@ -106,6 +107,9 @@ pub enum RunError {
     #[error("standard input: a message or a frame is refused (the output says which); expected frames of \
         ISO 8583:1987 messages")]
     Refused,
+    /// The profile file at the path is not taken.
+    #[error("{}: {cause}", .path.as_str())]
+    ProfileFile { path: Text, cause: ProfileLoadError },
     /// No memory was left.
     #[error("out of memory")]
     OutOfMemory,
@@ -219,6 +223,7 @@ impl From<SetupError> for RunError {
         match error {
             SetupError::OutOfMemory => RunError::OutOfMemory,
             SetupError::BadLimit(limit) => RunError::BadLimit(limit),
+            SetupError::Profile { path, cause } => RunError::ProfileFile { path, cause },
         }
     }
 }

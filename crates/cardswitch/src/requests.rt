@@ -12,7 +12,7 @@ ghost use Rattle.run_setup.specs.Words.{IsWordsOf};
 ghost use Rattle.sw_book.specs.Most.{max_limit};
 ghost use Rattle.cardswitch.specs.Checking.{IsRunMistake};
 ghost use Rattle.cardswitch.specs.SetUps.{TakesSetUp};
-ghost use Rattle.cardswitch.specs.Runs.{Answered, AnsweredBy, IfTaken};
+ghost use Rattle.cardswitch.specs.Runs.{Answered, AnsweredBy, AnsweredOver, IfTaken, IsRunFaultOver};
 ghost use Rattle.cardswitch.specs.Runs.{IsFileFault, IsFlowFault, IsLogFault, IsRecoverFault, IsRunFault, IsRunFaultBy};
 ghost use Rattle.cardswitch.specs.Runs.{IsServeFault, Recovered, Served, form_of, sender_of_setup};
 ghost use Rattle.cardswitch.specs.Runs.{ended_at, wanted};
@@ -28,8 +28,9 @@ use cli_options::choice::{RecoverOptions, RunOptions, StatsLines, TraceForm};
 use flow_asm::{Code, assemble};
 use flow_model::Flow;
 use journal_store::Journal;
+use run_recode::{reader_over, writer_over};
 use run_reports::Words;
-use run_setup::{journal_path, log_path, recovery, setup, words_of};
+use run_setup::{journal_path, log_path, recovery, run_passages, setup, words_of};
 use run_switch::{Edge, LineForm, RecordLog, Reporter, Setup, Stats, SwitchLink, check_end, run};
 use sqlite::Alter;
 use sqlite_std_file::File;
@@ -279,6 +280,39 @@ fn answer_by<
     }
 }
 
+// The same through what recodes the messages, if the configuration has a profile of the acquirer.
+fn answer_recoded<
+    R: Read + Drop + Send + 'static,
+    O: Write,
+    T: Threads + Wait + Clock + Sync + Clone + Drop + Send + 'static,
+>(
+    machine: &Machine<'_, T>,
+    flow: Result<Flow, RunError>,
+    config: Result<Config, RunError>,
+    options: &RunOptions<'_>,
+    input: R,
+    out: &mut O,
+) -> Result<(), RunError>
+    requires { IfOk flow (λ f. IsChecked f) }
+    ensures no_flow { IfErr flow (λ e. (result ≡ Err e)
+        × (O.contents out.new ≡ O.contents out.old)) }
+    ensures no_config { IfOk flow (λ _. IfErr config (λ e. (result ≡ Err e)
+        × (O.contents out.new ≡ O.contents out.old))) }
+    ensures answered { IfTaken flow config (λ f c. OnOk result
+        (AnsweredOver ⟦<FileStore<File> as Store>⟧ f options.now c
+        (R.remaining input) (O.contents out.old) (O.contents out.new))) }
+    ensures failed { IfTaken flow config (λ _ c. IfErr result
+        (IsRunFaultOver options.now c (O.contents out.old) (O.contents out.new))) }
+{
+    let flow = flow?;
+    let config = config?;
+    let (alloc, rt) = (machine.alloc, machine.rt);
+    let passages = run_passages(alloc, rt, options, &config)?;
+    let input = reader_over(alloc, &passages.from, input, rt.stderr())?;
+    let mut edge = writer_over(alloc, &passages.to, out, rt.stderr())?;
+    answer_by(machine, Ok(flow), Ok(config), options, input, &mut edge)
+}
+
 /// Answers the requests of an input. The journal is in memory, or in the file that the options or the
 /// configuration name.
 pub fn answer_requests<
@@ -294,7 +328,7 @@ pub fn answer_requests<
 {
     let flow = flow_at(machine.alloc, machine.rt, options.flow);
     let config = config_for(machine.alloc, machine.rt, options.config);
-    answer_by(machine, flow, config, options, input, out)
+    answer_recoded(machine, flow, config, options, input, out)
 }
 
 // Finishes what the journal in the file at a path has unfinished, by a flow and a configuration. (Both come as what

@@ -55,9 +55,9 @@ module _ (n : ℕ) (ms : Members) where
   times_checked b = (
     (
       default_fits 1 600000 10000 (number_at key.TimeoutMs ms) (omega arith, omega arith)
-          (number_fits 1 600000 (value_at key.TimeoutMs ms) (is_fit host_path ms key.TimeoutMs b.1.1.1.1.1.1.1.0)),
+          (number_fits 1 600000 (value_at key.TimeoutMs ms) (is_fit host_path ms key.TimeoutMs b.1.1.1.1.1.1.1.1.0)),
       default_fits 0 3600000 0 (number_at key.RetryMs ms) (omega arith, omega arith)
-          (number_fits 0 3600000 (value_at key.RetryMs ms) (is_fit host_path ms key.RetryMs b.1.1.1.1.0)),
+          (number_fits 0 3600000 (value_at key.RetryMs ms) (is_fit host_path ms key.RetryMs b.1.1.1.1.1.0)),
     ),
     default_fits 0 86400 0 (number_at key.EchoS ms) (omega arith, omega arith)
         (number_fits 0 86400 (value_at key.EchoS ms) (is_fit host_path ms key.EchoS b.0)),
@@ -69,12 +69,13 @@ module _ (n : ℕ) (ms : Members) where
       ap (λ (o : Option Data). if is_some o then Some key.Simulated else None) is in
       let from = text_fits want.Path paths_are_texts (value_at key.From ms) (is_there host_path ms key.From m.1.0 refl apart)
       (is_fit host_path ms key.From b.1.0) in
-      let to = text_fits want.Path paths_are_texts (value_at key.To ms) (is_there host_path ms key.To m.1.1.1.1.1.1.1.1.0 refl apart)
-      (is_fit host_path ms key.To b.1.1.1.1.1.1.1.1.0) in (
+      let to = text_fits want.Path paths_are_texts (value_at key.To ms) (is_there host_path ms key.To m.1.1.1.1.1.1.1.1.1.0 refl apart)
+      (is_fit host_path ms key.To b.1.1.1.1.1.1.1.1.1.0) in (
         (long_enough (text_at (spelling key.To) ms) to, long_enough (text_at (spelling key.From) ms) from),
         times_checked b,
         default_fits 1 16 1 (number_at key.InFlight ms) (omega arith, omega arith)
             (number_fits 1 16 (value_at key.InFlight ms) (is_fit host_path ms key.InFlight b.1.1.0)),
+        path_fits (value_at key.Profile ms) (is_fit host_path ms key.Profile b.1.1.1.1.0),
       )
   wire_checked (Some (boolean x)) is m b = tt
   wire_checked (Some (string s)) is m b = tt
@@ -175,17 +176,18 @@ limits_checked ms h =
 
 abbrev IsRun : Option Members → Type 0
 IsRun o = IfSome (run_in o).sessions (IsIn 1 16) × IfSome (run_in o).journal IsPath × IfSome (run_in o).advices (IsIn 0 256) × IfSome (run_in o).log IsPath
-    × IfSome (run_in o).allow AreShortNames × IfSome (run_in o).header (IsIn 0 64)
+    × IfSome (run_in o).allow AreShortNames × IfSome (run_in o).header (IsIn 0 64) × IfSome (run_in o).profile IsPath
 
 run_checked : (ms : Members) → table_fault run_path ms ≡ None → IsRun (Some ms)
 run_checked ms h =
     let b = none_bad run_path ms h in (
-      number_fits 1 16 (value_at key.Sessions ms) (is_fit run_path ms key.Sessions b.1.1.1.1.1.0),
+      number_fits 1 16 (value_at key.Sessions ms) (is_fit run_path ms key.Sessions b.1.1.1.1.1.1.0),
       path_fits (value_at key.Journal ms) (is_fit run_path ms key.Journal b.1.1.1.0),
       number_fits 0 256 (value_at key.Advices ms) (is_fit run_path ms key.Advices b.0),
       path_fits (value_at key.Log ms) (is_fit run_path ms key.Log b.1.1.1.1.0),
       names_fit (value_at key.Allow ms) (is_fit run_path ms key.Allow b.1.0),
       number_fits 0 64 (value_at key.Header ms) (is_fit run_path ms key.Header b.1.1.0),
+      path_fits (value_at key.Profile ms) (is_fit run_path ms key.Profile b.1.1.1.1.1.0),
     )
 
 pub config_checked : (top : Members) → first_fault top ≡ None → IsChecked (config_of top)
@@ -194,7 +196,7 @@ config_checked top h =
     let s = none_of (section_fault top) sections (left_none _ _ h) in
     let doubles = right_none _ _ h in
     let limits = only_table section.Limits AreLimits (tt, tt) limits_checked (value_at key.Limits top) s.1.1.1.0 in
-    let run = only_table section.Run IsRun (tt, tt, tt, tt, tt, tt) run_checked (value_at key.Run top) s.1.1.1.1.0 in
+    let run = only_table section.Run IsRun (tt, tt, tt, tt, tt, tt, tt) run_checked (value_at key.Run top) s.1.1.1.1.0 in
     record {
       hosts = if_there (value_at key.Host top) _ AreHosts (hosts_checked (tables_of section.Host top) s.1.0
           (left_none (double_of section.Host key.Name top) (double_of section.Route key.Prefix top) doubles));
@@ -209,4 +211,5 @@ config_checked top h =
       log = run.3;
       allow = run.4;
       header = run.5;
+      profile = run.6;
     }

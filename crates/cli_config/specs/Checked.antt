@@ -23,9 +23,10 @@ IsPath text = 1 ≤ length text
 abbrev pub AreTimes : WireTimes → Type 0
 AreTimes times = (IsIn 1 600000 times.timeout_ms × IsIn 0 3600000 times.retry_ms) × IsIn 0 86400 times.echo_s
 
--- streams have two paths, and at most 16 requests under way
+-- streams have two paths, at most 16 requests under way, and maybe the path of a profile
 abbrev pub IsWire : Wire → Type 0
-IsWire (wire.Streams to from times in_flight) = (IsPath to × IsPath from) × AreTimes times × IsIn 1 16 in_flight
+IsWire (wire.Streams to from times in_flight profile) =
+    (IsPath to × IsPath from) × AreTimes times × IsIn 1 16 in_flight × IfSome profile IsPath
 IsWire w = ⊤
 
 -- the name has room for `query_` before it
@@ -59,4 +60,5 @@ pub record IsChecked (c : Config) : Type 0 where
   pub sessions : IfSome c.run.sessions (IsIn 1 16)
   pub journal : IfSome c.run.journal IsPath
   pub log : IfSome c.run.log IsPath
+  pub profile : IfSome c.run.profile IsPath
   pub allow : IfSome c.run.allow AreShortNames

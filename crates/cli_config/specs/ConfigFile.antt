@@ -37,7 +37,9 @@ times_of ms = record {
 
 -- if the file does not say, one request at a time is under way at the host
 abbrev pub streams_of : Members → Wire
-streams_of ms = wire.Streams (text_at (spelling key.To) ms) (text_at (spelling key.From) ms) (times_of ms) (unwrap_or (number_at key.InFlight ms) 1)
+streams_of ms =
+    wire.Streams (text_at (spelling key.To) ms) (text_at (spelling key.From) ms) (times_of ms) (unwrap_or (number_at key.InFlight ms) 1)
+    (text_if key.Profile ms)
 
 -- how a host without a fault is reached, by what stands at `simulated`: true, or "silent"
 abbrev pub wire_by : Option Data → Members → Wire
@@ -61,7 +63,7 @@ limits_in None = record { per_card = None; stand_in = None }
 limits_in (Some ms) = record { per_card = number_at key.PerCard ms; stand_in = number_at key.StandIn ms }
 
 abbrev pub run_in : Option Members → run.RunTable
-run_in None = record { advices = None; allow = None; header = None; sessions = None; journal = None; log = None; threads = None; unordered = None }
+run_in None = record { advices = None; allow = None; header = None; sessions = None; journal = None; log = None; profile = None; threads = None; unordered = None }
 run_in (Some ms) = record {
   advices = number_at key.Advices ms;
   allow = names_at key.Allow ms;
@@ -69,6 +71,7 @@ run_in (Some ms) = record {
   sessions = number_at key.Sessions ms;
   journal = text_if key.Journal ms;
   log = text_if key.Log ms;
+  profile = text_if key.Profile ms;
   threads = flag_at (spelling key.Threads) ms;
   unordered = flag_at (spelling key.Unordered) ms;
 }

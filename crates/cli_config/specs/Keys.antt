@@ -23,10 +23,10 @@ sections = section.Top ∷ section.Host ∷ section.Route ∷ section.Limits ∷
 -- ascending by their spelling
 abbrev pub keys_of : Section → List Key
 keys_of section.Top = key.Host ∷ key.Limits ∷ key.Route ∷ key.Run ∷ []
-keys_of section.Host = key.EchoS ∷ key.From ∷ key.InFlight ∷ key.Name ∷ key.RetryMs ∷ key.Simulated ∷ key.HasStandIn ∷ key.TimeoutMs ∷ key.To ∷ []
+keys_of section.Host = key.EchoS ∷ key.From ∷ key.InFlight ∷ key.Name ∷ key.Profile ∷ key.RetryMs ∷ key.Simulated ∷ key.HasStandIn ∷ key.TimeoutMs ∷ key.To ∷ []
 keys_of section.Route = key.Group ∷ key.Prefix ∷ []
 keys_of section.Limits = key.PerCard ∷ key.StandIn ∷ []
-keys_of section.Run = key.Advices ∷ key.Allow ∷ key.Header ∷ key.Journal ∷ key.Log ∷ key.Sessions ∷ key.Threads ∷ key.Unordered ∷ []
+keys_of section.Run = key.Advices ∷ key.Allow ∷ key.Header ∷ key.Journal ∷ key.Log ∷ key.Profile ∷ key.Sessions ∷ key.Threads ∷ key.Unordered ∷ []
 
 abbrev pub spelling : Key → List ℕ
 spelling key.Host = codes "host"
@@ -37,6 +37,7 @@ spelling key.EchoS = codes "echo_s"
 spelling key.From = codes "from"
 spelling key.InFlight = codes "in_flight"
 spelling key.Name = codes "name"
+spelling key.Profile = codes "profile"
 spelling key.RetryMs = codes "retry_ms"
 spelling key.Simulated = codes "simulated"
 spelling key.HasStandIn = codes "standin"
@@ -65,6 +66,7 @@ wants key.EchoS = want.Number 0 86400
 wants key.From = want.Path
 wants key.InFlight = want.Number 1 16
 wants key.Name = want.Name 26
+wants key.Profile = want.Path
 wants key.RetryMs = want.Number 0 3600000
 wants key.Simulated = want.Simulation
 wants key.HasStandIn = want.Flag
@@ -97,6 +99,7 @@ abbrev pub excluded : Key → Option Key
 excluded key.EchoS = Some key.Simulated
 excluded key.From = Some key.Simulated
 excluded key.InFlight = Some key.Simulated
+excluded key.Profile = Some key.Simulated
 excluded key.RetryMs = Some key.Simulated
 excluded key.TimeoutMs = Some key.Simulated
 excluded key.To = Some key.Simulated

@@ -49,6 +49,8 @@ pub enum Wire {
         times: WireTimes,
         /// How many requests may be under way at the host at once, 1 to 16.
         in_flight: u64,
+        /// The path of the profile file that says how the host writes messages, not empty.
+        profile: Option<Text>,
     },
 }
 
@@ -75,6 +77,7 @@ impl Drop for Wire {
                 from: _,
                 times: _,
                 in_flight: _,
+                profile: _,
             } => {}
         }
     }
@@ -122,6 +125,8 @@ pub struct RunTable {
     pub journal: Option<Text>,
     /// The path of the log, not empty; `-` is standard error.
     pub log: Option<Text>,
+    /// The path of the profile file that says how the acquirer writes messages, not empty.
+    pub profile: Option<Text>,
     /// Whether the sessions run as threads.
     pub threads: Option<bool>,
     /// Whether, with threads, each response leaves as its transaction ends, and not in the order of the requests.

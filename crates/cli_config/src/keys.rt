@@ -41,6 +41,7 @@ pub enum Key {
     From,
     InFlight,
     Name,
+    Profile,
     RetryMs,
     Simulated,
     HasStandIn,
@@ -121,6 +122,7 @@ impl Section {
                 Key::From,
                 Key::InFlight,
                 Key::Name,
+                Key::Profile,
                 Key::RetryMs,
                 Key::Simulated,
                 Key::HasStandIn,
@@ -135,6 +137,7 @@ impl Section {
                 Key::Header,
                 Key::Journal,
                 Key::Log,
+                Key::Profile,
                 Key::Sessions,
                 Key::Threads,
                 Key::Unordered,
@@ -154,7 +157,7 @@ impl Key {
             Key::Name => Want::Name(26),
             Key::Group => Want::Name(32),
             Key::Prefix => Want::Digits(19),
-            Key::From | Key::To | Key::Journal | Key::Log => Want::Path,
+            Key::From | Key::To | Key::Journal | Key::Log | Key::Profile => Want::Path,
             Key::Simulated => Want::Simulation,
             Key::HasStandIn | Key::Threads | Key::Unordered => Want::Flag,
             Key::Allow => Want::Names(32),
@@ -184,8 +187,13 @@ impl Key {
         ensures { result ≡ spec.excluded self }
     {
         match self {
-            Key::EchoS | Key::From | Key::InFlight | Key::RetryMs | Key::TimeoutMs | Key::To =>
-                Some(Key::Simulated),
+            Key::EchoS
+            | Key::From
+            | Key::InFlight
+            | Key::Profile
+            | Key::RetryMs
+            | Key::TimeoutMs
+            | Key::To => Some(Key::Simulated),
             _ => None,
         }
     }
@@ -207,6 +215,7 @@ impl AsStr for Key {
             Key::From => "from",
             Key::InFlight => "in_flight",
             Key::Name => "name",
+            Key::Profile => "profile",
             Key::RetryMs => "retry_ms",
             Key::Simulated => "simulated",
             Key::HasStandIn => "standin",

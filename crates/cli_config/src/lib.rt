@@ -9,6 +9,7 @@
 //! retry_ms = 5000
 //! echo_s = 30
 //! in_flight = 4
+//! profile = "profiles/iso87binary.toml"
 //!
 //! [[route]]
 //! prefix = "4"

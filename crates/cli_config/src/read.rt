@@ -55,6 +55,7 @@ fn streams_of(alloc: Global, table: &Table) -> Result<Wire, AllocError>
         from,
         times: times_of(table),
         in_flight: number_at(table, Key::InFlight).unwrap_or(1),
+        profile: text_if(alloc, table, Key::Profile)?,
     })
 }
 
@@ -156,6 +157,7 @@ fn run_of(alloc: Global, top: &Table) -> Result<RunTable, AllocError>
             sessions: number_at(table, Key::Sessions),
             journal: text_if(alloc, table, Key::Journal)?,
             log: text_if(alloc, table, Key::Log)?,
+            profile: text_if(alloc, table, Key::Profile)?,
             threads: flag_at(table, Key::Threads),
             unordered: flag_at(table, Key::Unordered),
         }),
@@ -166,6 +168,7 @@ fn run_of(alloc: Global, top: &Table) -> Result<RunTable, AllocError>
             sessions: None,
             journal: None,
             log: None,
+            profile: None,
             threads: None,
             unordered: None,
         }),

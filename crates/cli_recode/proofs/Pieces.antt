@@ -1,17 +1,28 @@
 -- What a piece adds to what was recoded.
--- for: recoder::Recoder::piece
-use Rattle.std.proofs.Common.{◌≡◌, ◌∙◌, sym, ap, subst, ℕ, Bool, false, List, [], ◌++◌, Option}
+-- for: recoder::Recoder::new, recoder::Recoder::piece
+use Rattle.std.proofs.Common.{◌≡◌, ◌∙◌, inl, sym, ap, subst, refl, ℕ, Bool, false, List, [], ◌++◌, Option}
 use Rattle.std.specs.Prelude.{◌||◌}
 use Rattle.std.specs.Io.KnownBytes.{Keeps}
 use Rattle.std.proofs.KnownBytes.{Keeps-refl}
 use Rattle.std.proofs.lemmas.List.{append-nil}
 use Rattle.dialect_toml.specs.declared.frame.Frame.{Frame}
-use Rattle.dialect_frame.specs.Stream.{Stream}
+use Rattle.sw_frame.specs.Stream.{State}
+use Rattle.dialect_frame.specs.Stream.{Framing, Stream, begun}
+use Rattle.dialect_frame.proofs.Frames.{nothing-partial}
 use Rattle.cli_recode.specs.declared.message.Recoding.{Recoding}
 use Rattle.cli_recode.specs.declared.recoder.Recoder.{Recoder}
 use Rattle.cli_recode.specs.Progress.{IsAfter, IsQuietStep}
 use Rattle.cli_recode.specs.Recodings.{AreWritten}
 use Rattle.cli_recode.proofs.Written.{AreWritten-append, or-left, or-right}
+
+-- before the first piece
+pub begun_after : (form : Frame) (job : Recoding) (r : Recoder) → r.framer ≡ begun form → r.refused ≡ false → IsAfter form job [] [] [] r
+begun_after form job r is refused = record {
+  same = ap (λ (g : Framing). g.form) is;
+  stream = subst (λ (s : State). Stream form [] [] s) (sym (ap (λ (g : Framing). g.has) is))
+      (record { text = []; rest = []; whole = refl; frames = refl; ends = inl (nothing-partial form, refl) });
+  recoded = (refl, refused);
+}
 
 -- after a piece that made these messages whole
 pub went : (form : Frame) (job : Recoding) (bytes out piece text : List ℕ) (ms ns : List (List ℕ)) (r s : Recoder) (left : Bool)

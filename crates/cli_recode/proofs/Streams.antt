@@ -7,12 +7,13 @@ use Rattle.std.proofs.KnownBytes.{Appends-nil, Appends-trans, Consumes-nil, Cons
 use Rattle.std.proofs.lemmas.List.{append-nil}
 use Rattle.sw_frame.specs.Stream.{State}
 use Rattle.dialect_toml.specs.declared.frame.Frame.{Frame}
-use Rattle.dialect_frame.specs.Stream.{Framing, Stream, begun}
-use Rattle.dialect_frame.proofs.Frames.{Stream-failed, nothing-partial}
+use Rattle.dialect_frame.specs.Stream.{Stream, begun}
+use Rattle.dialect_frame.proofs.Frames.{Stream-failed}
 use Rattle.cli_recode.specs.declared.message.Recoding.{Recoding}
 use Rattle.cli_recode.specs.declared.recoder.Recoder.{Recoder}
 use Rattle.cli_recode.specs.Progress.{IsQuietStep, IsSoFar, Moment, RecodesPiece}
 use Rattle.cli_recode.specs.Streams.{IsRecodedBy, is_cut}
+use Rattle.cli_recode.proofs.Pieces.{begun_after}
 use Rattle.cli_recode.proofs.Written.{or-left}
 
 pub not_false : (b : Bool) → not b ≡ false → b ≡ true
@@ -57,12 +58,7 @@ started form job m r is refused = record {
   out = [];
   messages = [];
   consumed = Consumes-nil m.unread;
-  recoded = record {
-    same = ap (λ (g : Framing). g.form) is;
-    stream = subst (λ (s : State). Stream form [] [] s) (sym (ap (λ (g : Framing). g.has) is))
-        (record { text = []; rest = []; whole = refl; frames = refl; ends = inl (nothing-partial form, refl) });
-    recoded = (refl, refused);
-  };
+  recoded = begun_after form job r is refused;
   written = Appends-nil m.written;
   quiet = λ e. Keeps-refl m.reported;
 }

@@ -6,24 +6,11 @@ use Rattle.std.specs.Global.{Vec}
 use Rattle.std.proofs.lemmas.List.{append-nil, map_push, take_more}
 use Rattle.sw_frame.specs.Feeds.{messages}
 use Rattle.cli_recode.specs.declared.message.Recoding.{Recoding}
-use Rattle.cli_recode.specs.declared.error.RecodeError.{RecodeError}
-use Rattle.cli_recode.specs.declared.error.RecodeError.TheVariants.{OutOfMemory, Unframed, Unread, Unwritten}
-use Rattle.cli_recode.specs.Recodings.{AreWritten, IsFault, IsReason, IsRecodedFrame, IsRefusal, IsWritten}
-
--- a fault, if memory did not run out
-fault_of : (job : Recoding) (bytes : List ℕ) (e : RecodeError) → IsRefusal job bytes e → IsReason e → IsFault job bytes e
-fault_of job bytes (Unread e) h r = h
-fault_of job bytes (Unwritten e) h r = h
-fault_of job bytes (Unframed e) h r = h
-fault_of job bytes OutOfMemory h r = absurd r
+use Rattle.cli_recode.specs.Recodings.{AreWritten, IsWritten}
 
 pub or-false : (b : Bool) → b ≡ (b || false)
 or-false true = refl
 or-false false = refl
-
-or-true : (b : Bool) → true ≡ (b || true)
-or-true true = refl
-or-true false = refl
 
 or-assoc : (a b c : Bool) → ((a || b) || c) ≡ (a || (b || c))
 or-assoc true b c = refl
@@ -74,21 +61,11 @@ AreWritten-append job (k ∷ ms) ns out more r s a b = (
   AreWritten-append job ms ns a.1 more a.3 s a.7 b,
 )
 
--- the next message of a list, whose frame is written
-pub framed : (job : Recoding) (vs : List (Vec ℕ)) (i : ℕ) (v : Vec ℕ) (out one new : List ℕ) (r : Bool) → i < length vs → v ≡ get_or vs i v
-    → AreWritten job (messages (take i vs)) out r → IsRecodedFrame job v.items one → new ≡ out ++ one → AreWritten job (messages (take (i + 1) vs)) new r
-framed job vs i v out one new r low is a w e =
-    subst (λ (ms : List (List ℕ)). AreWritten job ms new r) (sym (messages-more vs i v low is))
-    (subst (λ b. AreWritten job (messages (take i vs) ++ v.items ∷ []) new b) (sym (or-false r))
-    (subst (λ (z : List ℕ). AreWritten job (messages (take i vs) ++ v.items ∷ []) z (r || false)) (sym e)
-    (AreWritten-push job (messages (take i vs)) v.items out one r false a w)))
-
--- the same of one that is left out
-pub left_out : (job : Recoding) (vs : List (Vec ℕ)) (i : ℕ) (v : Vec ℕ) (out : List ℕ) (r : Bool) (e : RecodeError) → i < length vs → v ≡ get_or vs i v
-    → AreWritten job (messages (take i vs)) out r → IsRefusal job v.items e → IsReason e → AreWritten job (messages (take (i + 1) vs)) out true
-left_out job vs i v out r e low is a refusal reason =
-    let w : IsWritten job v.items [] true = (refl, (e, fault_of job v.items e refusal reason)) in
-    subst (λ (ms : List (List ℕ)). AreWritten job ms out true) (sym (messages-more vs i v low is))
-    (subst (λ b. AreWritten job (messages (take i vs) ++ v.items ∷ []) out b) (sym (or-true r))
-    (subst (λ (z : List ℕ). AreWritten job (messages (take i vs) ++ v.items ∷ []) z (r || true)) (append-nil out)
-    (AreWritten-push job (messages (take i vs)) v.items out [] r true a w)))
+-- the next message of a list
+pub added : (job : Recoding) (vs : List (Vec ℕ)) (i : ℕ) (v : Vec ℕ) (out one new : List ℕ) (r left : Bool) → i < length vs → v ≡ get_or vs i v
+    → AreWritten job (messages (take i vs)) out r → IsWritten job v.items one left → new ≡ out ++ one
+    → AreWritten job (messages (take (i + 1) vs)) new (r || left)
+added job vs i v out one new r left low is a w e =
+    subst (λ (ms : List (List ℕ)). AreWritten job ms new (r || left)) (sym (messages-more vs i v low is))
+    (subst (λ (z : List ℕ). AreWritten job (messages (take i vs) ++ v.items ∷ []) z (r || left)) (sym e)
+    (AreWritten-push job (messages (take i vs)) v.items out one r left a w))

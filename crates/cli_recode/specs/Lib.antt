@@ -1,8 +1,9 @@
 -- `recode`.
 --
--- `IsRecoded` says what a message is recoded to, `IsRefusal` why it is left out, `AreWritten` what is written for messages, and
--- `IsRecodedStream` what is written for a stream.
+-- `IsRecoded` says what a message is recoded to, `IsRefusal` why it is not, `IsInstead` what then stands in its place, `AreWritten`
+-- what is written for messages, and `IsRecodedStream` what is written for a stream.
 pub mod Conversion
+pub mod FormatErrors
 pub mod Profiles
 pub mod Progress
 pub mod Recodings

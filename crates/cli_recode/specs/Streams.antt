@@ -1,11 +1,12 @@
 -- What is written for a stream.
-use Rattle.std.specs.Prelude.{◌≡◌, ◌==◌, ◌||◌, ℕ, Bool, not, List, length, Option, IfSome, unwrap_or}
+use Rattle.std.specs.Prelude.{◌≡◌, ◌==◌, ◌||◌, ℕ, Bool, not, List, [], length, Option, IfSome, unwrap_or}
 use Rattle.std.specs.Io.KnownBytes.{Appends}
 use Rattle.sw_frame.specs.Stream.{Framed as SwitchFramed, State}
 use Rattle.dialect_toml.specs.declared.frame.Frame.{Frame}
 use Rattle.dialect_toml.specs.declared.read.ProfileFile.{ProfileFile}
 use Rattle.dialect_frame.specs.Forms.{Framed}
 use Rattle.dialect_frame.specs.Stream.{Stream}
+use Rattle.cli_recode.specs.declared.message.Instead.TheVariants.{Nothing}
 use Rattle.cli_recode.specs.declared.message.Way.{Way}
 use Rattle.cli_recode.specs.declared.message.Way.TheVariants.{FromOther, ToOther}
 use Rattle.cli_recode.specs.declared.message.Recoding.{Recoding}
@@ -26,7 +27,14 @@ written_form FromOther file = own_form
 written_form ToOther file = other_form file
 
 abbrev pub recoding_of : Way → ProfileFile → Recoding
-recoding_of way file = record { way = way; profile = file.profile; form = written_form way file }
+recoding_of way file = record {
+  way = way;
+  profile = file.profile;
+  form = written_form way file;
+  header = 0;
+  instead = Nothing;
+  place = [];
+}
 
 -- the stream has a bad length, or ends within a frame
 abbrev pub is_cut : State → Bool

@@ -4,19 +4,24 @@ ghost use Rattle.std.specs.Prelude.{◌≡◌};
 ghost use Rattle.cli_recode.specs.Conversion.{error_of_decode, error_of_frame};
 ghost use Rattle.cli_recode.specs.Conversion.{error_of_profile, error_of_write};
 ghost use Rattle.cli_recode.specs.declared.error.ProfileLoadError.TheVariants as load;
+ghost use Rattle.cli_recode.specs.declared.error.RecodeError.TheVariants as recode;
 
 use cli_io::IoError;
 use dialect_frame::FrameError;
 use dialect_toml::ProfileFileError;
 use iso_codec::DecodeError;
 use iso_dialect::WriteError;
+use std::alloc::{AllocError, AllocFailed};
 use std::str::Utf8Error;
 use std::{fmt, io};
 use thiserror::Error;
 
-/// Why a message is left out.
+/// Why a message is not recoded.
 #[derive(Drop, Error)]
 pub enum RecodeError {
+    /// It has fewer bytes than its header, which has this many.
+    #[error("fewer bytes than those of its header; expected at least {0}")]
+    NoHeader(u8),
     /// In the profile its bytes are no message.
     #[error("{0}")]
     Unread(DecodeError),
@@ -35,6 +40,14 @@ pub enum RecodeError {
 impl fmt::Debug for RecodeError {
     fn fmt<W: fmt::Write>(&self, f: &mut fmt::Formatter<W>) -> fmt::Result {
         fmt::Display::fmt(self, f)
+    }
+}
+
+impl From<AllocError> for RecodeError {
+    ghost from_gives = { λ _ e. e ≡ recode.OutOfMemory };
+
+    fn from(_error: AllocError) -> RecodeError {
+        RecodeError::OutOfMemory
     }
 }
 

@@ -1,7 +1,9 @@
 //! `recode`: frames of messages as another system writes them, turned into the switch's own, and back.
 //!
 //! [`recode_stream`] reads frames from an input and writes those of the recoded messages, piece by piece.
-//! [`profile_at`] reads the profile file that says how the other system writes.
+//! [`profile_at`] reads the profile file that says how the other system writes. A [`Recoder`] recodes a stream
+//! for a caller that reads and writes by itself, as the crate `run_recode` does: there a header may stand before
+//! each message, and something else may be written for one that is not recoded (`Recoding`).
 //!
 //! # What is proved
 //!
@@ -9,7 +11,9 @@
 //! to, in their order, however the bytes came in pieces (`IsRecodedStream`). Towards the switch a message
 //! becomes the one spelling, in ASCII, of the message that its bytes spell in the profile; towards the
 //! other system the spelling in the profile (`IsRecoded`, by `iso_dialect`). A message is left out only
-//! for a fault that it has, or since its frame cannot count it (`IsRefusal`). The answer tells whether
+//! for a fault that it has, or since its frame cannot count it (`IsRefusal`). For each piece of a stream a
+//! `Recoder` gives the frames of its messages after their headers, and of one that has a fault exactly what
+//! `Recoding` says (`RecodesPiece`, `IsInstead`). The answer of `recode_stream` tells whether
 //! anything was left out, or the input has a bad length or ends within a frame. Where it says no, nothing
 //! was written to standard error (`quiet`). The frames of the switch are those of `sw_frame`
 //! (`own_frames_are_the_switchs`).
@@ -29,6 +33,7 @@
 #![tactic(auto)]
 
 mod error;
+mod instead;
 mod laws;
 mod message;
 mod profile;
@@ -37,6 +42,7 @@ mod stream;
 
 pub use error::{ProfileLoadError, RecodeError};
 pub use laws::own_frames_are_the_switchs;
-pub use message::{Recoding, Way};
-pub use profile::profile_at;
-pub use stream::recode_stream;
+pub use message::{Instead, Recoding, Way, own_form, recode_message};
+pub use profile::{TwoProfiles, profile_at, two_profiles_at};
+pub use recoder::Recoder;
+pub use stream::{Plan, plan_of, recode_stream};

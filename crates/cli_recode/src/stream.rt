@@ -6,12 +6,13 @@ ghost use Rattle.cli_io.specs.Inputs.{IsSpentAt, reads_made, unread};
 ghost use Rattle.cli_recode.specs.Progress.{IsQuiet, RecodingGoesOn, WritesPiece};
 ghost use Rattle.cli_recode.specs.Streams.{IsRecodedBy, IsRecodedStream, read_form, recoding_of};
 
-use crate::message::{Recoding, Way, own_form};
+use crate::message::{Instead, Recoding, Way, own_form};
 use crate::recoder::Recoder;
 use cli_io::{Input, IoError, write_out};
 use dialect_toml::{Frame, ProfileFile};
 use std::alloc::Global;
 use std::io::{Read, Write};
+use sw_participant::Text;
 
 /// How many bytes are read at once.
 const PIECE: usize = 65_536;
@@ -73,12 +74,15 @@ fn recode_piece<R: Read, O: Write, E: Write>(
 }
 
 /// The recoding of a stream, and the form of the frames that are read.
-struct Plan {
-    recoding: Recoding,
-    form: Frame,
+#[derive(Drop)]
+pub struct Plan {
+    pub recoding: Recoding,
+    pub form: Frame,
 }
 
-fn plan_of(alloc: Global, way: Way, file: ProfileFile) -> Plan
+/// The recoding by a profile file, and the form of the frames that are read then. No header stands before a
+/// message, and nothing is written for one that is not recoded; who wants otherwise changes that.
+pub fn plan_of(alloc: Global, way: Way, file: ProfileFile) -> Plan
     ensures recoding { result.recoding ≡ recoding_of way file }
     ensures form { result.form ≡ read_form way file }
 {
@@ -88,24 +92,19 @@ fn plan_of(alloc: Global, way: Way, file: ProfileFile) -> Plan
         Some(form) => form,
         None => own_form(alloc),
     };
-    match way {
-        Way::FromOther => Plan {
-            recoding: Recoding {
-                way,
-                profile,
-                form: own,
-            },
-            form: other,
-        },
-        Way::ToOther => Plan {
-            recoding: Recoding {
-                way,
-                profile,
-                form: other,
-            },
-            form: own,
-        },
-    }
+    let (form, written) = match way {
+        Way::FromOther => (other, own),
+        Way::ToOther => (own, other),
+    };
+    let recoding = Recoding {
+        way,
+        profile,
+        form: written,
+        header: 0,
+        instead: Instead::Nothing,
+        place: Text::new(String::new(alloc)),
+    };
+    Plan { recoding, form }
 }
 
 // Recodes a stream of frames of this form.
@@ -128,7 +127,7 @@ fn recode_by<R: Read, O: Write, E: Write>(
     loop {
         let more = recode_piece(alloc, recoding, input, &mut recoder, &mut buf, out, err)?;
         if !more {
-            return Ok(recoder.finish(err));
+            return Ok(recoder.finish(&recoding.place, err));
         }
     }
 }

@@ -21,7 +21,7 @@ shown_link = state_of (λ issuer. shown_issuer issuer.silent issuer.waiting.item
 abbrev pub wire_state : Wire → List ℕ
 wire_state wire.Simulated = 0 ∷ shown_issuer false []
 wire_state wire.Silent = 0 ∷ shown_issuer true []
-wire_state (wire.Streams to from times in_flight) = host_state
+wire_state (wire.Streams to from times in_flight profile) = host_state
 
 -- the same of a link that is made of this side
 abbrev pub side_state : Side → List ℕ

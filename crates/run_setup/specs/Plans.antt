@@ -21,8 +21,9 @@ use Rattle.run_switch.specs.Links.{switch_routes}
 use Rattle.run_switch.specs.declared.setup.Setup.{Setup}
 use Rattle.sw_book.specs.Most.{max_limit}
 use Rattle.run_setup.specs.declared.error.SetupError.{SetupError}
-use Rattle.run_setup.specs.declared.error.SetupError.TheVariants.{BadLimit, OutOfMemory}
+use Rattle.run_setup.specs.declared.error.SetupError.TheVariants.{BadLimit, OutOfMemory, Profile}
 use Rattle.run_setup.specs.Links.{host_link, host_query, named_state, shown_link, wire_state}
+use Rattle.run_setup.specs.Profiles.{IsHostProfileOf}
 
 -- a configuration that states nothing
 abbrev pub no_config : Config
@@ -30,17 +31,19 @@ no_config = record {
   hosts = None;
   routes = None;
   limits = record { per_card = None; stand_in = None };
-  run = record { advices = None; allow = None; header = None; sessions = None; journal = None; log = None; threads = None; unordered = None };
+  run = record { advices = None; allow = None; header = None; sessions = None; journal = None; log = None; profile = None; threads = None; unordered = None };
 }
 
 -- what a card may spend, 10,000 minor units where nothing states it
 abbrev pub limit_of : RunOptions → Config → ℕ
 limit_of o c = unwrap_or (option_or o.limit c.limits.per_card) 10000
 
--- a limit that is refused is that of the run, and greater than any that a book may have
-abbrev pub IsLimitFault : RunOptions → Config → SetupError → Type 0
-IsLimitFault o c (BadLimit limit) = (limit ≡ limit_of o c) × (max_limit < limit)
-IsLimitFault o c OutOfMemory = ⊤
+-- A limit that is refused is that of the run, and greater than any that a book may have. A profile file that is refused is that of
+-- a host, and comes after the limit.
+abbrev pub IsSetupFault : RunOptions → Config → SetupError → Type 0
+IsSetupFault o c (BadLimit limit) = (limit ≡ limit_of o c) × (max_limit < limit)
+IsSetupFault o c (Profile path cause) = (limit_of o c ≤ max_limit) × IsHostProfileOf c path
+IsSetupFault o c OutOfMemory = ⊤
 
 -- what the switch approves in a silent issuer's place, 1,000 minor units where nothing states it
 abbrev pub stand_in_of : Config → ℕ

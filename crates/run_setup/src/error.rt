@@ -7,9 +7,11 @@ ghost use Rattle.run_setup.specs.declared.error.SetupError.TheVariants.{OutOfMem
 
 use cli_config::ConfigError;
 use cli_io::IoError;
+use cli_recode::ProfileLoadError;
 use std::alloc::{AllocError, AllocFailed};
 use std::str::Utf8Error;
 use std::{fmt, io};
+use sw_participant::Text;
 use thiserror::Error;
 
 /// Why a configuration file is not taken. The text gives the position in the file, what is expected there and what was
@@ -73,6 +75,9 @@ pub enum SetupError {
     /// What a card may spend is above the greatest limit.
     #[error("--limit: {0} is not 0 to 999999999999999")]
     BadLimit(u64),
+    /// The profile file at the path is not taken.
+    #[error("{}: {cause}", .path.as_str())]
+    Profile { path: Text, cause: ProfileLoadError },
 }
 
 // By hand: a person is shown the same text, and a derived `fmt` is slow to prove.

@@ -30,6 +30,7 @@ fn no_config() -> Config
             sessions: None,
             journal: None,
             log: None,
+            profile: None,
             threads: None,
             unordered: None,
         },

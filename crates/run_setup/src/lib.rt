@@ -6,6 +6,8 @@
 //! - [`setup`] makes the routes and the links of a run. A host that is reached by streams gets threads of its
 //!   own, which open nothing before the first message is sent.
 //! - [`recovery`] makes what a recovery needs: the same participants, over links that nothing is sent on.
+//! - [`run_passages`] says how the messages of the acquirer are recoded, and [`check_profiles`] reads all profile files
+//!   that a configuration names.
 //! - [`simulated`] is what `step --switch` has: the switch's own limits and routes.
 //! - [`routes`] are those of a run.
 //! - [`words_of`] is what a run reports in words: what it is ready with, and its hosts that are reached by streams.
@@ -18,7 +20,9 @@
 //! stand-in and the advices between two reads the configuration, then the program's own. The limit is at
 //! most 999,999,999,999,999 minor units. Each host has a link for
 //! queries and one for advices: to a new simulated issuer, to a silent one, or to the host's threads,
-//! of which contracts know nothing. A limit over the greatest is `BadLimit`. `recovery` gives the same
+//! of which contracts know nothing. A limit over the greatest is `BadLimit`. After it, the error of a profile file has
+//! the path of one of the hosts' (`IsSetupFault`), and without profiles nothing is recoded (`IsReach`, `run_passages`).
+//! What is recoded by a profile is said by `run_recode`; no contract knows what its file holds. `recovery` gives the same
 //! routes, stand-in and names of participants, over links that nothing is sent on (`recovery_of`).
 //! Without a path `config_at` gives the configuration that states nothing, and no error. Of a file's
 //! bytes that are known it gives exactly the configuration, or a fault that they have, and of a file that
@@ -33,10 +37,12 @@ mod error;
 mod file;
 mod links;
 mod plan;
+mod recoded;
 mod words;
 
 pub use error::{ConfigFileError, SetupError};
 pub use file::config_at;
 pub use links::routes;
 pub use plan::{journal_path, log_path, recovery, setup, simulated};
+pub use recoded::{check_profiles, run_passages};
 pub use words::words_of;

@@ -1,6 +1,6 @@
 //! The routes of a run, and the links to its hosts.
 
-ghost use Rattle.std.specs.Prelude.{◌≡◌, [], map, true, IfOk, OnOk};
+ghost use Rattle.std.specs.Prelude.{◌≡◌, [], map, true, IfErr, IfOk, OnOk};
 ghost use Rattle.cli_config.specs.declared.config.Wire.TheVariants.{Simulated};
 ghost use Rattle.run_setup.specs.Links.{AddsLink, AreLinksOf, host_link, host_query, named_state};
 ghost use Rattle.run_setup.specs.Links.{shown_link};
@@ -10,7 +10,10 @@ ghost use Rattle.sw_parts.specs.Queries.{shown_query};
 ghost use Rattle.run_setup.specs.Links.{side_state, wire_state};
 ghost use Rattle.run_setup.specs.Plans.{links_of, own_links, own_queries, queries_of, routes_of};
 ghost use Rattle.run_setup.specs.Plans.{routing_of, unasked, unasked_of};
+ghost use Rattle.run_setup.specs.Profiles.{IsHostsFault, IsProfileFault, wire_profile};
 
+use crate::error::SetupError;
+use crate::recoded::{ReadRecoded, WriteRecoded, host_passages};
 use cli_config::{Config, Route, Wire, WireTimes};
 use run_switch::{NamedLink, SwitchLink, default_routes};
 use std::alloc::{AllocError, Global};
@@ -59,15 +62,21 @@ fn times_of(times: &WireTimes) -> HostTimes
 /// What opens the two streams of a host, and what is agreed with it.
 #[derive(Drop)]
 struct Reach {
-    to: WritePath<HostRuntime>,
-    from: ReadPath<HostRuntime>,
+    to: WriteRecoded,
+    from: ReadRecoded,
     times: HostTimes,
     in_flight: usize,
 }
 
-// How a host is reached by streams; `None` if it is simulated.
-fn reach_of(rt: &HostRuntime, wire: &Wire) -> Result<Option<Reach>, AllocError>
-    ensures { IfOk result (IsReachOf wire.now) }
+// How a host of this name is reached by streams; `None` if it is simulated.
+fn reach_of(
+    alloc: Global,
+    rt: &HostRuntime,
+    name: &Text,
+    wire: &Wire,
+) -> Result<Option<Reach>, SetupError>
+    ensures reach { IfOk result (IsReachOf wire.now) }
+    ensures refused { IfErr result (IsProfileFault (wire_profile wire.now)) }
 {
     match wire {
         Wire::Simulated | Wire::Silent => Ok(None),
@@ -76,12 +85,26 @@ fn reach_of(rt: &HostRuntime, wire: &Wire) -> Result<Option<Reach>, AllocError>
             from,
             times,
             in_flight,
-        } => Ok(Some(Reach {
-            to: WritePath::new(*rt, to.copy()?.into_string()),
-            from: ReadPath::new(*rt, from.copy()?.into_string()),
-            times: times_of(times),
-            in_flight: *in_flight as usize,
-        })),
+            profile,
+        } => {
+            let passages = host_passages(alloc, rt, name, profile)?;
+            Ok(Some(Reach {
+                to: WriteRecoded {
+                    rt: *rt,
+                    alloc,
+                    opener: WritePath::new(*rt, to.copy()?.into_string()),
+                    passage: passages.to,
+                },
+                from: ReadRecoded {
+                    rt: *rt,
+                    alloc,
+                    opener: ReadPath::new(*rt, from.copy()?.into_string()),
+                    passage: passages.from,
+                },
+                times: times_of(times),
+                in_flight: *in_flight as usize,
+            }))
+        }
     }
 }
 
@@ -129,16 +152,18 @@ impl Side {
         threads: &T,
         alloc: Global,
         rt: &HostRuntime,
+        name: &Text,
         wire: &Wire,
-    ) -> Result<Side, AllocError>
+    ) -> Result<Side, SetupError>
         ensures state { IfOk result (λ side. side_state side ≡ wire_state wire.now) }
         ensures times { IfOk result (HasTimesOf wire.now) }
+        ensures refused { IfErr result (IsProfileFault (wire_profile wire.now)) }
     {
         match wire {
             Wire::Simulated => Ok(Side::Simulated),
             Wire::Silent => Ok(Side::Silent),
             Wire::Streams { .. } => {
-                let Some(reach) = reach_of(rt, wire)? else {
+                let Some(reach) = reach_of(alloc, rt, name, wire)? else {
                     unreachable!()
                 };
                 Ok(Side::Reached(reach.start(threads, alloc)?))
@@ -239,15 +264,16 @@ pub(crate) fn links_to_hosts<T: Threads + Wait + Clock + Clone + Drop + Send + '
     alloc: Global,
     rt: &HostRuntime,
     config: &Config,
-) -> Result<Links, AllocError>
-    ensures { IfOk result (AreLinksOf (queries_of config.now) (links_of config.now)) }
+) -> Result<Links, SetupError>
+    ensures links { IfOk result (AreLinksOf (queries_of config.now) (links_of config.now)) }
+    ensures refused { IfErr result (IsHostsFault config.now) }
 {
     let Some(hosts) = &config.hosts else {
-        return own_links(alloc);
+        return Ok(own_links(alloc)?);
     };
     let mut links = Links::new(alloc);
     for host in hosts.as_slice() {
-        let side = Side::start(threads, alloc, rt, &host.wire)?;
+        let side = Side::start(threads, alloc, rt, &host.name, &host.wire)?;
         links.add(alloc, rt, host, &side)?;
     }
     Ok(links)

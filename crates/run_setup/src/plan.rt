@@ -3,7 +3,7 @@
 ghost use Rattle.std.specs.Prelude.{◌≡◌, ◌<◌, ◌≤◌, Err, IfErr, IfOk, OnOk, is_some};
 ghost use Rattle.run_switch.specs.Links.{switch_routes};
 ghost use Rattle.sw_book.specs.Most.{max_limit};
-ghost use Rattle.run_setup.specs.Plans.{IsLimitFault, IsSetUp, advices_of, header_of, journal_of};
+ghost use Rattle.run_setup.specs.Plans.{IsSetUp, IsSetupFault, advices_of, header_of, journal_of};
 ghost use Rattle.run_setup.specs.Plans.{log_path_of, limit_of};
 ghost use Rattle.run_setup.specs.Plans.{order_of, plain_setup, recovery_of, sessions_of, stand_in_of};
 ghost use Rattle.run_setup.specs.Plans.{threads_of};
@@ -89,7 +89,8 @@ fn sessions(options: &RunOptions<'_>, config: &Config) -> u64
     options.sessions.or(config.run.sessions).unwrap_or(1)
 }
 
-fn header(options: &RunOptions<'_>, config: &Config) -> u64
+/// How many bytes the header before each message has.
+pub(crate) fn header(options: &RunOptions<'_>, config: &Config) -> u64
     ensures { result ≡ header_of options.now config.now }
 {
     options.header.or(config.run.header).unwrap_or(0)
@@ -141,7 +142,8 @@ fn checked(limit: u64) -> Result<u64, SetupError>
 }
 
 /// What a run is set up with by its options and its configuration. The threads of its hosts are started here. If
-/// what a card may spend is over 999,999,999,999,999 minor units, `BadLimit` is reported before any other error.
+/// what a card may spend is over 999,999,999,999,999 minor units, `BadLimit` is reported before any other error. After
+/// it comes the first host, in the order of the configuration, whose profile file is not taken.
 pub fn setup<T: Threads + Wait + Clock + Clone + Drop + Send + 'static>(
     threads_of_hosts: &T,
     alloc: Global,
@@ -152,7 +154,7 @@ pub fn setup<T: Threads + Wait + Clock + Clone + Drop + Send + 'static>(
     ensures set_up { IfOk result (IsSetUp options.now config.now) }
     ensures bad_limit { max_limit < limit_of options.now config.now
         → result ≡ Err (BadLimit (limit_of options.now config.now)) }
-    ensures within { IfErr result (IsLimitFault options.now config.now) }
+    ensures within { IfErr result (IsSetupFault options.now config.now) }
 {
     let limit = checked(limit(options, config))?;
     let routes = routes(alloc, config)?;

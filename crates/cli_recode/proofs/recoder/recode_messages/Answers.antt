@@ -1,31 +1,21 @@
-use Rattle.std.proofs.Common.{◌∙◌, ap, subst, List, ℕ, ◌++◌}
-use Rattle.cli_recode.specs.Recodings.{IsRecodedFrame, IsRefusal}
-use Rattle.cli_recode.proofs.Written.{framed, left_out}
-use Rattle.cli_recode.proofs.recoder.recode_messages.Goals.{in-Ok+in_ok-extend_from_slice-in-Ok, in-Err+in_ok-report-in-Err}
+use Rattle.std.proofs.Common.{◌∙◌, ap, subst, sym, List, ℕ, ◌++◌}
+use Rattle.std.proofs.KnownBytes.{Keeps-trans}
+use Rattle.cli_recode.specs.Recodings.{IsWritten}
+use Rattle.cli_recode.proofs.Written.{added, or-left, or-right}
 use Rattle.cli_recode.proofs.recoder.recode_messages.Goals as goal
 
 pub loop-message-preserved : goal.loop-message-preserved
 loop-message-preserved g c =
     let job = c.args.recoding.now in
     let vs = c.args.messages.now in
-    let i = c.loop-message.message-index in
-    let v = c.message-item.result in
     let old = c.loop-message.recoded in
-    let inv = c.loop-message.invariant in
-    elim c.match-recode_message.branch [
-      | in-Ok+in_ok-extend_from_slice-in-Ok w ↦
-          let is = subst (λ (z : List ℕ). IsRecodedFrame job z w.in-Ok.frame.items) c.deref.ensures.value w.in-Ok.ensures.recoded in
-          let new = w.in_ok-extend_from_slice-in-Ok.ensures.items ∙ ap (λ (z : List ℕ). old.frames.items ++ z) w.deref-in-Ok.ensures.value in
-          rw (w.recoded-is, w.err-is) (record {
-            written = framed job vs i v old.frames.items w.in-Ok.frame.items w.extend_from_slice.new.self.items old.refused c.loop-message-test.true
-                c.message-item.is inv.written is new;
-            quiet = inv.quiet;
-          })
-      | in-Err+in_ok-report-in-Err w ↦
-          let refusal = subst (λ (z : List ℕ). IsRefusal job z w.in-Err.error) c.deref.ensures.value w.in-Err.ensures.refused in
-          rw w.recoded-is (record {
-            written = left_out job vs i v old.frames.items old.refused w.in-Err.error c.loop-message-test.true c.message-item.is inv.written refusal
-                w.in_ok-report-in-Err.ensures;
-            quiet = λ e. absurd cc;
-          })
-    ]
+    let one = c.in_ok-one.one in
+    let written = subst (λ (z : List ℕ). IsWritten job z one.frames.items one.refused) c.deref.ensures.value c.in_ok-one.ensures.written in
+    let new = c.in_ok-extend_from_slice.ensures.items ∙ ap (λ (z : List ℕ). old.frames.items ++ z) c.deref-in-loop-message.ensures.value in
+    record {
+      written = rw c.either.ensures (added job vs c.loop-message.message-index c.message-item.result old.frames.items one.frames.items
+          c.extend_from_slice.new.self.items old.refused one.refused c.loop-message-test.true c.message-item.is c.loop-message.invariant.written written new);
+      quiet = λ e. Keeps-trans (g.E.Write.contents c.args.err.now) (g.E.Write.contents c.loop-message.err) (g.E.Write.contents c.recode_one.new.err)
+          (c.loop-message.invariant.quiet (or-left old.refused one.refused (sym c.either.ensures ∙ e)))
+          (c.in_ok-one.ensures.quiet (or-right old.refused one.refused (sym c.either.ensures ∙ e)));
+    }

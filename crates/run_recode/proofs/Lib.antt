@@ -1,0 +1,4 @@
+mod Flows
+mod Queues
+mod Reading
+mod Writing
