@@ -2,7 +2,7 @@
 -- for: book::DayBook
 use Rattle.std.proofs.Common.{◌≡◌, ◌⊎◌, inl, inr, ℕ, ◌+◌, ◌≤◌, Bool, true, false, cond, [], ◌∷◌, List, Option, Some, None, unwrap_or, IsTrue, refl, sym, ap, subst, ◌∙◌, true≢false, arith}
 use Rattle.std.specs.Prelude.{◌==◌, ◌&&◌}
-use Rattle.std.specs.Ordering.{nat_cmp, is_eq, match_ordering}
+use Rattle.std.specs.Ordering.{nat_cmp, match_ordering}
 use Rattle.std.specs.declared.cmp.Ordering.{Ordering}
 use Rattle.std.specs.declared.cmp.Ordering.TheVariants.{Less, Equal, Greater}
 use Rattle.std.specs.BTreeMap.{is_at}
@@ -11,8 +11,8 @@ use Rattle.std.proofs.lemmas.Slice.Eq.{bytes_eq-Decides}
 use Rattle.std.proofs.lemmas.Bool.Decides.{nat_tests}
 use Rattle.day_book.specs.declared.item.DayItem.{DayItem}
 use Rattle.day_book.specs.declared.item.RequestDay.{RequestDay}
-use Rattle.day_book.specs.Items.{Items, total, item_at, later, newest, is_for, is_open, is_open_in, has_open, request_day, request_eq}
-use Rattle.day_book.specs.Changes.{with_item, in_its_place, without, in_state}
+use Rattle.day_book.specs.Items.{Items, total, item_at, later, newest, is_for, is_open, is_open_in, request_day, request_eq}
+use Rattle.day_book.specs.Changes.{with_item, in_its_place}
 use Rattle.day_book.specs.Taking.{is_held, is_held_at}
 use Rattle.day_book.specs.Kept.{one, HasOpenAlone, Takes}
 use Rattle.day_book.proofs.Sums.{share, total-new, total-set, total-has}
@@ -121,11 +121,15 @@ module _ (es : Items) (alone : HasOpenAlone es) where
           let open_v : IsTrue (is_open v.state) = subst (λ z. IsTrue (is_open z.state)) is held in
           let none = none-newest (request_day v) es (T.unknown open_v) in
           let all : total (is_for (request_day v)) one (with_item id v es) ≡ 1 =
-              omega (arith, none, total-new (is_for (request_day v)) one id v es T.free, ap {B = ℕ} (λ b. cond b 1 0) (own_request v)) in
+          omega (arith, none, total-new (is_for (request_day v)) one id v es T.free, ap {B = ℕ} (λ b. cond b 1 0) (own_request v)) in
           subst (λ z. total (is_for (request_day z)) one (with_item id v es) ≡ 1) (sym is) all
       by (inr was) =
-          omega (arith, alone i x was held, total-new (is_for (request_day x)) one id v es T.free,
-            ap {B = ℕ} (λ b. cond b 1 0) (unheld_apart v T.unheld i x was held))
+          omega (
+            arith,
+            alone i x was held,
+            total-new (is_for (request_day x)) one id v es T.free,
+            ap {B = ℕ} (λ b. cond b 1 0) (unheld_apart v T.unheld i x was held),
+          )
 
   pub alone-set : (id : ℕ) (u v : DayItem) → item_at id es ≡ Some u → request_day v ≡ request_day u → is_open v.state ≡ false
       → HasOpenAlone (in_its_place id v es)
@@ -134,8 +138,12 @@ module _ (es : Items) (alone : HasOpenAlone es) where
       by : (x ≡ v) ⊎ (item_at i es ≡ Some x) → total (is_for (request_day x)) one (in_its_place id v es) ≡ 1
       by (inl is) = absurd cc
       by (inr was) =
-          omega (arith, alone i x was held, total-set (is_for (request_day x)) one id u v es at,
-            ap {B = ℕ} (λ q. cond (request_eq q (request_day x)) 1 0) same)
+          omega (
+            arith,
+            alone i x was held,
+            total-set (is_for (request_day x)) one id u v es at,
+            ap {B = ℕ} (λ q. cond (request_eq q (request_day x)) 1 0) same,
+          )
 
   pub alone-out : (u : DayItem) (es' : Items) → ((q : RequestDay) → total (is_for q) one es' + share (is_for q) one u ≡ total (is_for q) one es)
       → ((i : ℕ) (x : DayItem) → item_at i es' ≡ Some x → item_at i es ≡ Some x) → HasOpenAlone es'

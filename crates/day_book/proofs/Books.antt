@@ -1,11 +1,10 @@
 -- A book stays a book.
 -- for: book::DayBook
-use Rattle.std.proofs.Common.{◌≡◌, ℕ, ◌+◌, ◌-◌, ◌≤◌, Bool, true, false, cond, List, [], ◌∷◌, Option, Some, None, IsTrue, refl, sym, ap, subst, ◌∙◌, arith}
-use Rattle.std.specs.Prelude.{◌==◌, ◌&&◌}
+use Rattle.std.proofs.Common.{◌≡◌, ℕ, ◌+◌, ◌≤◌, Bool, true, false, cond, List, ◌∷◌, Option, Some, None, unwrap_or, slice_get, IsTrue, refl, sym, ap, subst, ◌∙◌, arith}
+use Rattle.std.specs.Prelude.{◌==◌}
 use Rattle.std.specs.List.{All}
 use Rattle.std.specs.Map.{keys_of}
 use Rattle.std.specs.Ordering.{nat_cmp}
-use Rattle.std.specs.BTreeMap.{is_at}
 use Rattle.std.specs.BTreeMap.Range.{IsLtBy}
 use Rattle.std.specs.Str.{bytes_eq}
 use Rattle.std.proofs.lemmas.Slice.Eq.{bytes_eq-Decides}
@@ -14,14 +13,15 @@ use Rattle.day_book.specs.declared.item.CardDay.{CardDay}
 use Rattle.day_book.specs.declared.item.RequestDay.{RequestDay}
 use Rattle.day_book.specs.declared.item.DayItem.{DayItem}
 use Rattle.day_book.specs.declared.item.Totals.{Totals}
+use Rattle.day_book.specs.declared.item.State.TheVariants.{Open}
 use Rattle.day_book.specs.Most.{max_sum}
-use Rattle.day_book.specs.Items.{Items, total, used, reserved, spent_of, held_of, item_at, newest, later, is_open, is_of, is_for}
+use Rattle.day_book.specs.Items.{Items, total, used, reserved, spent_of, held_of, item_at, newest, later, is_open, is_used, is_of, is_for}
 use Rattle.day_book.specs.Items.{card_day, card_eq, request_day, request_eq}
 use Rattle.day_book.specs.Changes.{with_item, in_its_place, without}
-use Rattle.day_book.specs.Kept.{IsDayBook, HasOpenAlone, IsTotals, Takes, one, totals_in, kept_totals, newest_left}
+use Rattle.day_book.specs.Kept.{IsDayBook, HasOpenAlone, Takes, one, totals_in, kept_totals, newest_left}
 use Rattle.day_book.proofs.Sums.{share, total-new, total-set, total-out, total-has, total-none}
 use Rattle.day_book.proofs.Newest.{newest-new, newest-set, newest-other, newest-none, newest-first}
-use Rattle.day_book.proofs.Alone.{both, same_request, own_request, alone-new, alone-set, alone-out, found-out}
+use Rattle.day_book.proofs.Alone.{both, same_request, own_request, alone-new, alone-set, alone-out}
 
 same_card : (a c : CardDay) → card_eq a c ≡ true → a ≡ c
 same_card a c e =
@@ -87,9 +87,9 @@ module _ (limit : ℕ) (es : Items) (ids : RequestDay → Option ℕ) (t : CardD
         let es' = with_item id v es in
         let own : is_of (card_day v) v ≡ true = own_card (card_day v) in
         let spent : s.used ≡ used (card_day v) es' =
-            omega (arith, su, total-new (is_of (card_day v)) spent_of id v es T.free, ap (λ b. cond b (spent_of v) 0) own) in
+        omega (arith, su, total-new (is_of (card_day v)) spent_of id v es T.free, ap (λ b. cond b (spent_of v) 0) own) in
         let held : s.reserved ≡ reserved (card_day v) es' =
-            omega (arith, sr, total-new (is_of (card_day v)) held_of id v es T.free, ap (λ b. cond b (held_of v) 0) own) in
+        omega (arith, sr, total-new (is_of (card_day v)) held_of id v es T.free, ap (λ b. cond b (held_of v) 0) own) in
         keeps es' ids' t' (card_day v) (Some s) ht
         (λ w c e. omega (arith, total-new (is_of c) w id v es T.free, ap (λ b. cond b (w v) 0) e))
         (alone-new es B.alone id v T) found spent held
@@ -127,35 +127,121 @@ module _ (limit : ℕ) (es : Items) (ids : RequestDay → Option ℕ) (t : CardD
           let sum_u : (totals_in (kept_totals s)).used ≡ s.used = ap (λ (z : Totals). z.used) (kept_in s) in
           let sum_r : (totals_in (kept_totals s)).reserved ≡ s.reserved = ap (λ (z : Totals). z.reserved) (kept_in s) in
           let spent : s.used ≡ used a es' =
-              omega (arith, su, total-set (is_of a) spent_of id u v es is, B.spent a, ap (λ b. cond b (spent_of u) 0) own,
-                ap (λ b. cond b (spent_of v) 0) own_v) in
+          omega (
+            arith,
+            su,
+            total-set (is_of a) spent_of id u v es is,
+            B.spent a,
+            ap (λ b. cond b (spent_of u) 0) own,
+            ap (λ b. cond b (spent_of v) 0) own_v,
+          ) in
           let held : s.reserved ≡ reserved a es' =
-              omega (arith, sr, total-set (is_of a) held_of id u v es is, B.held a, ap (λ b. cond b (held_of u) 0) own,
-                ap (λ b. cond b (held_of v) 0) own_v) in
+          omega (
+            arith,
+            sr,
+            total-set (is_of a) held_of id u v es is,
+            B.held a,
+            ap (λ b. cond b (held_of u) 0) own,
+            ap (λ b. cond b (held_of v) 0) own_v,
+          ) in
           let none : held_of v ≡ 0 = ap (λ b. cond b v.amount 0) closed in
           keeps es' ids t' a (kept_totals s) ht
           (λ w c e. omega (arith, total-set (is_of c) w id u v es is, ap (λ b. cond b (w u) 0) e, ap (λ b. cond b (w v) 0) (ap (λ z. card_eq z c) card ∙ e)))
           (alone-set es B.alone id u v is request closed)
           (λ q. B.found q ∙ sym (newest-set q id u v es (ap (λ z. request_eq z q) request) is))
           (sum_u ∙ spent) (sum_r ∙ held) (omega (arith, spent, held, su, sr, less, none, sums_small, spent_there, held_there))
-          (λ z. absurd (omega (arith, z, total-set (is_of a) one id u v es is, total-has (is_of a) one id u es is, ap {B = ℕ} (λ b. cond b 1 0) own,
-            ap {B = ℕ} (λ b. cond b 1 0) own_v)))
+          (λ z. absurd (omega (
+            arith,
+            z,
+            total-set (is_of a) one id u v es is,
+            total-has (is_of a) one id u es is,
+            ap {B = ℕ} (λ b. cond b 1 0) own,
+            ap {B = ℕ} (λ b. cond b 1 0) own_v,
+          )))
 
-    pub keeps_out : (u : DayItem) (es' : Items) (s : Totals) (ids' : RequestDay → Option ℕ) (t' : CardDay → Option Totals)
-        → ((p : DayItem → Bool) (w : DayItem → ℕ) → total p w es' + share p w u ≡ total p w es)
-        → ((i : ℕ) (x : DayItem) → item_at i es' ≡ Some x → item_at i es ≡ Some x)
-        → ((q : RequestDay) → ids' q ≡ newest q es')
-        → s.used + spent_of u ≡ (totals_in (t (card_day u))).used → s.reserved + held_of u ≡ (totals_in (t (card_day u))).reserved
-        → ((c : CardDay) → t' c ≡ cond (card_eq (card_day u) c) (kept_totals s) (t c)) → IsDayBook limit es' ids' t'
-    keeps_out u es' s ids' t' out back found su sr ht =
-        let a = card_day u in
-        let own : is_of a u ≡ true = own_card a in
-        let sum_u : (totals_in (kept_totals s)).used ≡ s.used = ap (λ (z : Totals). z.used) (kept_in s) in
-        let sum_r : (totals_in (kept_totals s)).reserved ≡ s.reserved = ap (λ (z : Totals). z.reserved) (kept_in s) in
-        let spent : s.used ≡ used a es' = omega (arith, su, out (is_of a) spent_of, B.spent a, ap (λ b. cond b (spent_of u) 0) own) in
-        let held : s.reserved ≡ reserved a es' = omega (arith, sr, out (is_of a) held_of, B.held a, ap (λ b. cond b (held_of u) 0) own) in
-        keeps es' ids' t' a (kept_totals s) ht
-        (λ w c e. omega (arith, out (is_of c) w, ap (λ b. cond b (w u) 0) e))
-        (alone-out es B.alone u es' (λ q. out (is_for q) one) back) found
-        (sum_u ∙ spent) (sum_r ∙ held) (omega (arith, spent, held, su, sr, B.within a, B.spent a, B.held a))
-        (λ z. kept_none s (spent ∙ total-none (is_of a) spent_of es' z) (held ∙ total-none (is_of a) held_of es' z))
+  pub keeps_out : (u : DayItem) (es' : Items) (s : Totals) (ids' : RequestDay → Option ℕ) (t' : CardDay → Option Totals)
+      → ((p : DayItem → Bool) (w : DayItem → ℕ) → total p w es' + share p w u ≡ total p w es)
+      → ((i : ℕ) (x : DayItem) → item_at i es' ≡ Some x → item_at i es ≡ Some x)
+      → ((q : RequestDay) → ids' q ≡ newest q es')
+      → s.used + spent_of u ≡ (totals_in (t (card_day u))).used → s.reserved + held_of u ≡ (totals_in (t (card_day u))).reserved
+      → ((c : CardDay) → t' c ≡ cond (card_eq (card_day u) c) (kept_totals s) (t c)) → IsDayBook limit es' ids' t'
+  keeps_out u es' s ids' t' out back found su sr ht =
+      let a = card_day u in
+      let own : is_of a u ≡ true = own_card a in
+      let sum_u : (totals_in (kept_totals s)).used ≡ s.used = ap (λ (z : Totals). z.used) (kept_in s) in
+      let sum_r : (totals_in (kept_totals s)).reserved ≡ s.reserved = ap (λ (z : Totals). z.reserved) (kept_in s) in
+      let spent : s.used ≡ used a es' = omega (arith, su, out (is_of a) spent_of, B.spent a, ap (λ b. cond b (spent_of u) 0) own) in
+      let held : s.reserved ≡ reserved a es' = omega (arith, sr, out (is_of a) held_of, B.held a, ap (λ b. cond b (held_of u) 0) own) in
+      keeps es' ids' t' a (kept_totals s) ht
+      (λ w c e. omega (arith, out (is_of c) w, ap (λ b. cond b (w u) 0) e))
+      (alone-out es B.alone u es' (λ q. out (is_for q) one) back) found
+      (sum_u ∙ spent) (sum_r ∙ held) (omega (arith, spent, held, su, sr, B.within a, B.spent a, B.held a))
+      (λ z. kept_none s (spent ∙ total-none (is_of a) spent_of es' z) (held ∙ total-none (is_of a) held_of es' z))
+
+-- a card without sums has none
+pub no_totals : (o : Option Totals) → o ≡ None → ((totals_in o).used ≡ 0) × ((totals_in o).reserved ≡ 0)
+no_totals None h = (refl, refl)
+no_totals (Some s) h = absurd cc
+
+-- an item that is not open holds nothing, and one that is open has spent nothing
+pub closed_held : (u : DayItem) → is_open u.state ≡ false → held_of u ≡ 0
+closed_held u h = ap (λ b. cond b u.amount 0) h
+
+pub open_held : (u : DayItem) → u.state ≡ Open → held_of u ≡ u.amount
+open_held u h = ap (λ s. cond (is_open s) u.amount 0) h
+
+pub open_spent : (u : DayItem) → u.state ≡ Open → spent_of u ≡ 0
+open_spent u h = ap (λ s. cond (is_used s) u.amount 0) h
+
+-- what a card's sums are after a reservation
+pub sums_new : (id : ℕ) (v : DayItem) (es : Items) → item_at id es ≡ None
+    → used (card_day v) (with_item id v es) + reserved (card_day v) (with_item id v es)
+    ≡ used (card_day v) es + reserved (card_day v) es + spent_of v + held_of v
+sums_new id v es none =
+    let own : is_of (card_day v) v ≡ true = own_card (card_day v) in
+    omega (
+      arith,
+      total-new (is_of (card_day v)) spent_of id v es none,
+      ap (λ b. cond b (spent_of v) 0) own,
+      total-new (is_of (card_day v)) held_of id v es none,
+      ap (λ b. cond b (held_of v) 0) own,
+    )
+
+-- the newest ids after an open item went, which was the only one of its request
+pub newest-release : (limit : ℕ) (es : Items) (ids : RequestDay → Option ℕ) (t : CardDay → Option Totals) (B : IsDayBook limit es ids t)
+    (id : ℕ) (u : DayItem) → item_at id es ≡ Some u → u.state ≡ Open → (q : RequestDay)
+    → cond (request_eq (request_day u) q) None (ids q) ≡ newest q (without id es)
+newest-release limit es ids t B id u is held q = by (request_eq (request_day u) q) refl
+  where
+    by : (b : Bool) → request_eq (request_day u) q ≡ b → cond b None (ids q) ≡ newest q (without id es)
+    by false e = B.found q ∙ sym (newest-other q id u es e is)
+    by true e =
+        let same : request_day u ≡ q = same_request (request_day u) q e in
+        let open_u : IsTrue (is_open u.state) = subst (λ s. IsTrue (is_open s)) (sym held) refl in
+        let alone : total (is_for (request_day u)) one es ≡ 1 = B.alone id u is open_u in
+        let none : newest (request_day u) (without id es) ≡ None =
+        newest-none (request_day u) (without id es)
+        (omega (arith, alone, total-out (is_for (request_day u)) one id u es is, ap {B = ℕ} (λ b. cond b 1 0) (own_request u))) in
+        sym none ∙ ap (λ z. newest z (without id es)) same
+
+-- the first item is there
+pub first_there : (id : ℕ) (u : DayItem) (es : Items) → item_at id ((id, u) ∷ es) ≡ Some u
+first_there id u es = grind (arith, nat_tests)
+
+-- the newest ids after the first item went
+pub newest-forget : (limit : ℕ) (id : ℕ) (u : DayItem) (es : Items) (ids : RequestDay → Option ℕ) (t : CardDay → Option Totals)
+    (B : IsDayBook limit ((id, u) ∷ es) ids t) → All (IsLtBy nat_cmp id) (keys_of es) → (q : RequestDay)
+    → cond (request_eq (request_day u) q) (newest_left id (ids (request_day u))) (ids q) ≡ newest q es
+newest-forget limit id u es ids t B all q = by (request_eq (request_day u) q) refl ∙ sym (newest-first q id u es all)
+  where
+    by : (b : Bool) → request_eq (request_day u) q ≡ b
+        → cond b (newest_left id (ids (request_day u))) (ids q) ≡ cond b (newest_left id (newest q ((id, u) ∷ es))) (newest q ((id, u) ∷ es))
+    by false e = B.found q
+    by true e = ap (newest_left id) (B.found (request_day u) ∙ ap (λ z. newest z ((id, u) ∷ es)) (same_request (request_day u) q e))
+
+-- the first item is the one that was looked at, which is not open
+pub first_closed : {k : ℕ} {id : ℕ} {es : Items} (u v : DayItem) (es' : Items) → slice_get es 0 ≡ Some (k, v) → es ≡ (id, u) ∷ es'
+    → false ≡ is_open v.state → is_open u.state ≡ false
+first_closed {k} {id} {es} u v es' first split shut =
+    let same : Some (id, u) ≡ Some (k, v) = ap (λ (z : Items). slice_get z 0) (sym split) ∙ first in
+    ap (λ (o : Option (ℕ × DayItem)). is_open (unwrap_or o (k, v)).1.state) same ∙ sym shut

@@ -2,7 +2,7 @@
 --
 -- - *Used, reserved*: the sums over the used and the open items of a card on a day.
 -- - *Newest*: of the items of a request on a day, the one with the greatest id.
-use Rattle.std.specs.Prelude.{◌≡◌, ℕ, ◌+◌, ◌≤◌, max, Bool, true, false, ◌&&◌, ◌||◌, ◌==◌, List, [], ◌∷◌}
+use Rattle.std.specs.Prelude.{ℕ, ◌+◌, max, Bool, true, false, ◌&&◌, ◌==◌, List, [], ◌∷◌}
 use Rattle.std.specs.Prelude.{Option, Some, None, if◌then◌else◌}
 use Rattle.std.specs.Map.{lookup}
 use Rattle.std.specs.Ordering.{nat_cmp}
@@ -12,7 +12,7 @@ use Rattle.day_book.specs.declared.item.CardDay.{CardDay}
 use Rattle.day_book.specs.declared.item.RequestDay.{RequestDay}
 use Rattle.day_book.specs.declared.item.DayItem.{DayItem}
 use Rattle.day_book.specs.declared.item.State.{State}
-use Rattle.day_book.specs.declared.item.State.TheVariants.{Open, Used, Reversed}
+use Rattle.day_book.specs.declared.item.State.TheVariants.{Open, Used}
 
 -- items under their ids, which rise
 abbrev pub Items : Type 0

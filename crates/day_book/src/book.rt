@@ -14,7 +14,9 @@ ghost use Rattle.day_book.specs.Kept.{Changes, IsTotals, Takes};
 
 use crate::error::DayBookError;
 use crate::item::{CardDay, DayItem, RequestDay, State, Totals};
-use crate::parts::{add, drop_newest, held_of, replace_item, set_totals, spent_of, totals_of};
+use crate::parts::{
+    add, drop_newest, held_of, is_open, replace_item, set_totals, spent_of, totals_of,
+};
 use std::alloc::Global;
 use std::collections::{BTreeMap, HashMap};
 use std::marker::Model;
@@ -134,7 +136,7 @@ impl DayBook {
             return false;
         };
         match self.item(id) {
-            Some(found) => found.state == State::Open,
+            Some(found) => is_open(&found),
             None => false,
         }
     }
@@ -302,7 +304,7 @@ impl DayBook {
         let Some((_, first)) = self.items.first_key_value() else {
             return false;
         };
-        if first.day >= before || first.state == State::Open {
+        if first.day >= before || is_open(first) {
             return false;
         }
         let Some((id, item)) = self.items.pop_first() else {

@@ -4,7 +4,7 @@ ghost use Rattle.std.specs.Prelude.{◌≡◌};
 ghost use Rattle.day_book.specs.Items.{card_day, request_day};
 
 /// How far an item has come.
-#[derive(Clone, Copy, PartialEq, Eq)]
+#[derive(Clone, Copy)]
 pub enum State {
     /// Held for a transaction that may commit.
     Open,

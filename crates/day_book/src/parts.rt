@@ -6,7 +6,7 @@ ghost use Rattle.std.specs.HashMap.{get, spare};
 ghost use Rattle.day_book.specs.declared.item.CardDay as declared_card;
 ghost use Rattle.day_book.specs.declared.item.RequestDay as declared;
 ghost use Rattle.day_book.specs.Items.{card_day, card_eq, request_day, request_eq};
-ghost use Rattle.day_book.specs.Items.{item_at, held_of, later, spent_of};
+ghost use Rattle.day_book.specs.Items.{item_at, held_of, is_open, later, spent_of};
 ghost use Rattle.day_book.specs.Changes.{with_item, in_its_place};
 ghost use Rattle.day_book.specs.Kept.{kept_totals, totals_in, newest_left};
 
@@ -35,6 +35,13 @@ pub fn spent_of(item: &DayItem) -> u64
         State::Used => item.amount,
         _ => 0,
     }
+}
+
+/// Whether an item is open.
+pub fn is_open(item: &DayItem) -> bool
+    ensures { result ≡ is_open item.now.state }
+{
+    matches!(item.state, State::Open)
 }
 
 /// What an item adds to what is held for its card.
@@ -79,8 +86,8 @@ pub fn add(
     ensures items_kept { OnErr result (items.new.entries ≡ items.old.entries) }
     ensures newest { OnOk result ((q : declared.RequestDay) → get request_eq newest.new q
         ≡ (if request_eq (request_day item) q
-           then Some (later id (get request_eq newest.old (request_day item)))
-           else get request_eq newest.old q)) }
+        then Some (later id (get request_eq newest.old (request_day item)))
+        else get request_eq newest.old q)) }
     ensures newest_kept { OnErr result ((q : declared.RequestDay)
         → get request_eq newest.new q ≡ get request_eq newest.old q) }
     ensures totals { OnOk result ((c : declared_card.CardDay) → get card_eq totals.new c
@@ -136,8 +143,8 @@ pub fn set_totals(totals: &mut HashMap<CardDay, Totals>, card: CardDay, sums: To
 pub fn drop_newest(newest: &mut HashMap<RequestDay, u64>, request: &RequestDay, id: u64)
     ensures { (q : declared.RequestDay) → get request_eq newest.new q
         ≡ (if request_eq request.now q
-           then newest_left id (get request_eq newest.old request.now)
-           else get request_eq newest.old q) }
+        then newest_left id (get request_eq newest.old request.now)
+        else get request_eq newest.old q) }
 {
     let Some(found) = newest.get(request) else {
         return;
