@@ -1,6 +1,9 @@
 //! The items of all cards, by day.
 
-ghost use Rattle.std.specs.Prelude.{◌≡◌, ◌+◌, ◌<◌, ◌≤◌, None, Some, [], false};
+ghost use Rattle.std.specs.Prelude.{◌≡◌, ◌+◌, ◌<◌, ◌≤◌, None, Some, [], false, length};
+ghost use Rattle.std.specs.List.Sorted.{IsStrictlySortedBy};
+ghost use Rattle.std.specs.Map.{keys_of};
+ghost use Rattle.std.specs.Ordering.{nat_cmp};
 ghost use Rattle.std.specs.Prelude.{IfOk, OnOk, OnErr, IfErr, IsOk};
 ghost use Rattle.day_book.specs.declared.error.DayBookError.TheVariants.{BadLimit, OutOfMemory};
 ghost use Rattle.day_book.specs.declared.item.State.TheVariants.{Open};
@@ -81,6 +84,14 @@ impl DayBook {
             newest: HashMap::new(alloc),
             totals: HashMap::new(alloc),
         })
+    }
+
+    /// How many items there are. Their ids rise.
+    pub fn len(&self) -> usize
+        ensures len { result ≡ length self.now.items }
+        ensures rising { IsStrictlySortedBy nat_cmp (keys_of self.now.items) }
+    {
+        self.items.len()
     }
 
     /// What the card has spent on the day.
