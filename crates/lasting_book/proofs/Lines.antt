@@ -126,7 +126,7 @@ module _ (reach : ℕ) where
           let gone : lines_in reach (e ∷ es) ≡ lines_in reach es = kept_as e es false (ap (λ o. is_kept reach (unwrap_or o u)) h ∙ out) in
           let is : id ≡ e.0 = same id e.0 at in
           let first : with_line (line_at (e.0, v)) (lines_in reach es) ≡ line_at (e.0, v) ∷ lines_in reach es =
-              put_first (line_at (e.0, v)) (lines_in reach es) (lines_above e.0 es all) in
+          put_first (line_at (e.0, v)) (lines_in reach es) (lines_above e.0 es all) in
           kept_as (e.0, v) es true kept ∙ sym first ∙ ap (λ ls. with_line (line_at (e.0, v)) ls) (sym gone)
           ∙ ap (λ k. with_line (line_at (k, v)) (lines_in reach (e ∷ es))) (sym is)
       by false at go h =

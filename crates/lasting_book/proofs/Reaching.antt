@@ -152,3 +152,6 @@ lines_more a b (e ∷ es) h = by (not (is_open e.1.state)) (nat_le a e.1.day) re
             let m : b ≤ e.1.day = grind (arith, nat_tests, is') in
             omega (arith, n, m, h)
     by true false is false is' go = go
+
+pub day_late : (reach day : ℕ) → reach ≤ day → int_le (pos reach) (pos day) ≡ true
+day_late reach day h = grind (arith, ints, h)

@@ -2,6 +2,7 @@
 
 ghost use Rattle.std.specs.Prelude.{◌≡◌, OnErr, OnOk, false, pos};
 ghost use Rattle.std.specs.List.{list_any};
+ghost use Rattle.book_store.specs.Items.{line_for};
 ghost use Rattle.book_store.specs.Kept.{IsCleanBook, book};
 ghost use Rattle.book_store.specs.Lines.{has_id, marked, with_line};
 ghost use Rattle.day_book.specs.Items.{is_open};
@@ -19,7 +20,7 @@ const MAX_ID: u64 = 9_223_372_036_854_775_807;
 // An item as the file takes it.
 fn item_for(id: u64, item: &DayItem) -> Item
     requires closed { is_open item.now.state ≡ false }
-    ensures { Rattle.book_store.specs.Items.line_for result ≡ line_at (id, item.now) }
+    ensures { line_for result ≡ line_at (id, item.now) }
 {
     Item {
         id,
@@ -34,11 +35,7 @@ fn item_for(id: u64, item: &DayItem) -> Item
 }
 
 /// Puts an item that is not open under an id that the file does not have.
-pub fn put<S: Alter>(
-    file: &mut BookFile<S>,
-    id: u64,
-    item: &DayItem,
-) -> Result<(), LastingError>
+pub fn put<S: Alter>(file: &mut BookFile<S>, id: u64, item: &DayItem) -> Result<(), LastingError>
     requires closed { is_open item.now.state ≡ false }
     ensures put { OnOk result
         (IsChanged S.Store (with_line (line_at (id, item.now))) file.old file.new) }
