@@ -1,11 +1,13 @@
 -- What the queries show.
 -- for: reading::all_salt and the other queries
-use Rattle.std.proofs.Common.{◌≡◌, ℕ, ◌-◌, ℤ, pos, negsuc, List, [], ◌∷◌, map, filter, take, drop, get_or, length, slice_get, true, false, Bool, ◌&&◌}
+use Rattle.std.proofs.Common.{◌≡◌, ℕ, ◌-◌, ℤ, pos, negsuc, List, [], ◌∷◌, map, filter, take, drop, get_or, length, slice_get, true, false, Bool, ◌&&◌, ◌||◌, not, suc}
 use Rattle.std.proofs.Common.{if◌then◌else◌}
 use Rattle.std.proofs.Common.{Option, Some, None, option_map, option_and_then, IfOk, Result, codes, int_eq, int_le, int_lt, int_cmp, ◌+ℤ◌, map-id, refl}
 use Rattle.std.proofs.Common.{sym, ap, ap₂, subst}
-use Rattle.std.proofs.Common.{◌∙◌, true≢false}
-use Rattle.std.specs.List.{AllByRecursion, list_all}
+use Rattle.std.proofs.Common.{◌∙◌, true≢false, arith}
+use Rattle.std.specs.List.{AllByRecursion, list_all, list_any}
+use Rattle.std.specs.Prelude.{◌==◌}
+use Rattle.std.proofs.lemmas.Bool.Decides.{nat_tests}
 use Rattle.std.specs.Ordering.{ordering_then}
 use Rattle.std.specs.Prelude.{Vec}
 use Rattle.std.specs.declared.alloc.Global.{Global}
@@ -35,17 +37,17 @@ use Rattle.store_base.specs.Columns.{needed}
 use Rattle.store_base.proofs.CellLemmas.{and_true}
 use Rattle.store_base.proofs.ReadLemmas.{by_rowid, by_rowids, shows}
 use Rattle.store_base.proofs.StoredRows.{Pair, split, whole, key, stored_rows, rising_rows}
-use Rattle.book_store.specs.Lines.{Line, lines_of, row_of}
+use Rattle.book_store.specs.Lines.{Line, has_id, lines_of, row_of}
 use Rattle.book_store.specs.Queries.{IsSaltOf, IsSaltShown, day_cmp, days_from, first_day, firsts, last_id, last_of, of_day, of_request, open_id}
 use Rattle.book_store.specs.Queries.{shown_day, shown_id}
 use Rattle.book_store.specs.Queries.{counts, counts_in, next_lines, shown_line, shown_mark, shown_salt, used, used_in}
 use Rattle.book_store.specs.Schema.{book_schema, salt}
 use Rattle.book_store.specs.Steps.{IsBook, salt_row}
-use Rattle.book_store.specs.Texts.{all_salt_text, first_day_text, first_ids_text, next_items_text, of_request_text, sum_text, used_text}
+use Rattle.book_store.specs.Texts.{all_salt_text, first_day_text, first_ids_text, next_items_text, of_id_text, of_request_text, sum_text, used_text}
 use Rattle.book_store.proofs.LineLemmas.{book_rows, lines_rise, null_cell}
 use Rattle.book_store.proofs.TextFacts.{salt_query, salt_names, all_salt_asks, request_query, request_names, of_request_asks, day_query, day_names}
 use Rattle.book_store.proofs.TextFacts.{first_day_asks, ids_query, ids_names, first_ids_asks, next_query, next_names, next_items_asks, used_query, sum_query}
-use Rattle.book_store.proofs.TextFacts.{sum_names, used_asks, sum_asks}
+use Rattle.book_store.proofs.TextFacts.{sum_names, used_asks, sum_asks, id_query, of_id_asks}
 
 -- the rows of `salt`
 
@@ -142,6 +144,14 @@ module _ (old new : State) (book : IsBook old.now) where
       (λ rows a. of_lines (Int day ∷ Int most ∷ []) ids_query.filter (λ (l : Line). int_eq l.day day)
       (λ l. and_true _ ∙ at_ints false Eq l.day day) ids_query.project ids_query.limit shown_id (λ l. refl) rows a) h
 
+  pub reads_id : {E : Type 0} (id : ℤ) (r : Result (Vec Row Global) E)
+      → IfOk r (λ rows. Shown of_id_text (Int id ∷ []) old new rows.items)
+      → IfOk r (λ rows. rows.items ≡ map shown_id (filter (has_id id) lines))
+  reads_id id r h = shows book_schema of_id_text id_query ids_names of_id_asks old new book.schema_is (Int id ∷ []) r
+      (λ rows. rows ≡ map shown_id (filter (has_id id) lines))
+      (λ rows a. of_lines (Int id ∷ []) id_query.filter (has_id id)
+      (λ l. and_true _ ∙ at_ints false Eq l.id id) id_query.project id_query.limit shown_id (λ l. refl) rows a) h
+
   pub reads_days : {E : Type 0} (from : ℤ) (r : Result (Vec Row Global) E) → IfOk r (λ rows. Shown first_day_text (Int from ∷ []) old new rows.items)
       → IfOk r (λ rows. rows.items ≡ take 1 (map shown_day (days_from from lines)))
   reads_days from r h = shows book_schema first_day_text day_query day_names first_day_asks old new book.schema_is (Int from ∷ []) r
@@ -233,6 +243,22 @@ open_none ls rows is found = go (last_of ls) (there ls rows is ∙ sym found)
     go : (o : Option Line) → option_map shown_mark o ≡ None → option_and_then (λ (l : Line). if int_eq l.reversed (pos 0) then Some l.id else None) o ≡ None
     go None e = refl
     go (Some l) e = absurd (let f = e in cc)
+
+-- there are rows where an item passes
+pub any_shown : (P : Line → Bool) (ls : List Line) (rows : List Row) → rows ≡ map shown_id (filter P ls) → (length rows == 0) ≡ not (list_any P ls)
+any_shown P ls rows is = ap (λ (l : List Row). length l == 0) is ∙ go ls
+  where
+    more : (n : ℕ) → (suc n == 0) ≡ false
+    more n = grind (arith, nat_tests)
+
+    go : (ls : List Line) → (length (map shown_id (filter P ls)) == 0) ≡ not (list_any P ls)
+    go [] = refl
+    go (l ∷ ls) = by (P l) (go ls)
+      where
+        by : (b : Bool) → (length (map shown_id (filter P ls)) == 0) ≡ not (list_any P ls)
+            → (length (map shown_id (if b then l ∷ filter P ls else filter P ls)) == 0) ≡ not (b || list_any P ls)
+        by true rest = more (length (map shown_id (filter P ls)))
+        by false rest = rest
 
 pub day_found : (from : ℤ) (ls : List Line) (rows : List Row) → rows ≡ take 1 (map shown_day (days_from from ls))
     → option_map (λ (r : Row). id_in (column r 0)) (slice_get rows 0) ≡ first_day from ls

@@ -22,7 +22,7 @@ use Rattle.store_base.proofs.DeleteLemmas.{rows_of}
 use Rattle.store_base.proofs.ReadLemmas.{Asks}
 use Rattle.book_store.specs.Schema.{salt, item, salt_schema, book_schema}
 use Rattle.book_store.specs.Texts.{salt_text, item_text, add_salt_text, put_item_text, mark_item_text, drop_items_text, all_salt_text, next_items_text}
-use Rattle.book_store.specs.Texts.{of_request_text, first_day_text, first_ids_text, used_text, sum_text}
+use Rattle.book_store.specs.Texts.{of_request_text, of_id_text, first_day_text, first_ids_text, used_text, sum_text}
 
 pub salt_means : MakesTable no_schema salt_schema salt salt_text
 unfolding understood everything
@@ -190,6 +190,23 @@ ids_names = codes "id" ∷ []
 pub first_ids_asks : Asks book_schema first_ids_text ids_query ids_names
 unfolding understood everything
 first_ids_asks = record { command = refl; unlisted = refl; plain = (refl, refl) }
+
+abbrev pub id_query : Query
+id_query = record {
+  from = inner 1 end;
+  filter = op2 (Compare Eq Binary) (col 1 0) (col 0 0) ∷ [];
+  group = None;
+  project = col 1 0 ∷ [];
+  distinct = false;
+  collations = [];
+  order = (col 1 0, ascending Binary) ∷ [];
+  limit = lit (Int (negsuc 0));
+  offset = lit (Int (pos 0));
+}
+
+pub of_id_asks : Asks book_schema of_id_text id_query ids_names
+unfolding understood everything
+of_id_asks = record { command = refl; unlisted = refl; plain = (refl, refl) }
 
 abbrev pub sum_with : List Term → Query
 sum_with filter = record {

@@ -31,6 +31,9 @@ next_items_text = codes "SELECT id, card, request, amount, day, reversed FROM it
 abbrev pub of_request_text : List ℕ
 of_request_text = codes "SELECT id, reversed FROM item WHERE request = ?1 ORDER BY id"
 
+abbrev pub of_id_text : List ℕ
+of_id_text = codes "SELECT id FROM item WHERE id = ?1 ORDER BY id"
+
 abbrev pub first_day_text : List ℕ
 first_day_text = codes "SELECT day FROM item WHERE day >= ?1 ORDER BY day, id LIMIT 1"
 

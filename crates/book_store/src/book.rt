@@ -10,12 +10,12 @@ ghost use Rattle.sqlite_trees.specs.View.{doubt};
 ghost use Rattle.book_store.specs.Items.{IsSmall, line_for};
 ghost use Rattle.book_store.specs.Kept.{IsCleanBook, Kept, OpensAs, Tables, book, changed, left_by};
 ghost use Rattle.book_store.specs.Left.{IsBeforeOrNew, IsNaming, IsStore, doubt_of, leaves};
-ghost use Rattle.book_store.specs.Lines.{with_line};
+ghost use Rattle.book_store.specs.Lines.{marked, with_line};
 ghost use Rattle.book_store.specs.Changes.{forgotten, reversed};
 ghost use Rattle.book_store.specs.Queries.{of_request, open_id};
 ghost use Rattle.book_store.specs.Steps.{salt_row};
 
-use crate::changes::{forget, make_book, put, reverse};
+use crate::changes::{forget, make_book, mark, put, reverse};
 use crate::error::BookFileError;
 use crate::hash::hashed;
 use crate::item::{Hashed, Item};
@@ -137,6 +137,39 @@ impl<S: Alter> BookFile<S> {
         }
         match reverse(&mut self.conn, request.bytes.as_slice()) {
             Ok(was_open) => Ok(was_open),
+            Err(error) => {
+                self.failed = true;
+                Err(BookFileError::Store(error))
+            }
+        }
+    }
+
+    /// Marks the item under an id as reversed, if there is one. Refusals are as in `put`.
+    pub fn mark(&mut self, id: i64) -> Result<(), BookFileError>
+        ensures failed { IsTrue self.old.failed
+            → (result ≡ Err BookFileError.Failed) × (self.new ≡ self.old) }
+        ensures salt { self.new.salt ≡ self.old.salt }
+        ensures clean { doubt (book S.Store self.old).is_clean
+            ≤ doubt (book S.Store self.new).is_clean }
+        ensures ok { OnOk result (self.new.failed ≡ false) }
+        ensures err { OnErr result (self.new.failed ≡ true) }
+        ensures refused { self.old.failed ≡ false → IfErr result IsStore }
+        ensures wrote { IsCleanBook (book S.Store self.new) → OnOk result
+            ((book S.Store self.new).tables
+            ≡ changed (marked id) (book S.Store self.old).tables) }
+        ensures kept { IsCleanBook (book S.Store self.new) → OnOk result
+            ((salt : List ℕ) (t : Tables) → (book S.Store self.new).may_leave salt t
+            → t ≡ (book S.Store self.new).tables) }
+        ensures stop { IsCleanBook (book S.Store self.new) → self.old.failed ≡ false
+            → (salt : List ℕ) (t : Tables) → (book S.Store self.new).may_leave salt t
+            → (t ≡ (book S.Store self.old).tables)
+            ⊎ (t ≡ changed (marked id) (book S.Store self.old).tables) }
+    {
+        if self.failed {
+            return Err(BookFileError::Failed);
+        }
+        match mark(&mut self.conn, id) {
+            Ok(()) => Ok(()),
             Err(error) => {
                 self.failed = true;
                 Err(BookFileError::Store(error))

@@ -14,11 +14,12 @@
 //! refused opening leaves is opened as it would have been (`again`). No contract says that a book is
 //! taken: an `open` that refuses every database meets it.
 //!
-//! `put`, `reverse` and `forget` make their change or none, through every stop (`wrote`, `kept`, `stop`).
-//! An item whose id is there is not put again. A reversal marks the item of the request that has the
-//! highest id, unless it was reversed before, and tells whether there was one (`told`). `forget` takes the
+//! `put`, `mark`, `reverse` and `forget` make their change or none, through every stop (`wrote`, `kept`,
+//! `stop`). An item whose id is there is not put again. `mark` marks the item under an id as reversed.
+//! `reverse` marks the item of the request that has the highest id, unless it was reversed before, and
+//! tells whether there was one (`told`). `forget` takes the
 //! first items of the oldest day from 0 on, at most so many, if that day is before the given one. `next`
-//! shows the next items after an id, of days from one on; `used` and `used_in` are the sums of a day, and
+//! shows the next items after an id, of days from one on; `has` tells whether an item has an id; `used` and `used_in` are the sums of a day, and
 //! `first_day` the first day from one on. These change nothing (`same`, `left`). Each refusal of the store
 //! makes the file fail, and then each call answers `Failed` and does nothing (`refused`, `err`, `failed`).
 //! `item_in` reads a row of `next` as an item, or names it; `hash` is what stands for a card or a request.

@@ -5,13 +5,15 @@ ghost use Rattle.std.specs.Prelude.{false, map};
 ghost use Rattle.std.specs.Prelude.{true};
 ghost use Rattle.sqlite_trees.specs.View.{doubt};
 ghost use Rattle.book_store.specs.Kept.{IsCleanBook, Tables, book};
+ghost use Rattle.std.specs.List.{list_any};
 ghost use Rattle.book_store.specs.Left.{IsStore};
+ghost use Rattle.book_store.specs.Lines.{has_id};
 ghost use Rattle.book_store.specs.Queries.{first_day, next_lines, shown_line, used, used_in};
 
 use crate::book::BookFile;
 use crate::error::BookFileError;
 use crate::item::Hashed;
-use crate::reading::{first_day, next_items, used, used_in};
+use crate::reading::{first_day, has, next_items, used, used_in};
 use sqlite::{Alter, Row};
 
 impl<S: Alter> BookFile<S> {
@@ -40,6 +42,36 @@ impl<S: Alter> BookFile<S> {
             return Err(BookFileError::Failed);
         }
         match next_items(&mut self.conn, after, from, most) {
+            Ok(found) => Ok(found),
+            Err(error) => {
+                self.failed = true;
+                Err(BookFileError::Store(error))
+            }
+        }
+    }
+
+    /// Whether an item has this id. Refusals are as in `next`.
+    pub fn has(&mut self, id: i64) -> Result<bool, BookFileError>
+        ensures failed { IsTrue self.old.failed
+            → (result ≡ Err BookFileError.Failed) × (self.new ≡ self.old) }
+        ensures salt { self.new.salt ≡ self.old.salt }
+        ensures clean { doubt (book S.Store self.old).is_clean
+            ≤ doubt (book S.Store self.new).is_clean }
+        ensures ok { OnOk result (self.new.failed ≡ false) }
+        ensures err { OnErr result (self.new.failed ≡ true) }
+        ensures refused { self.old.failed ≡ false → IfErr result IsStore }
+        ensures same { IsCleanBook (book S.Store self.new) → self.new.failed ≡ false
+            → (book S.Store self.new).tables ≡ (book S.Store self.old).tables }
+        ensures left { IsCleanBook (book S.Store self.new) → self.old.failed ≡ false
+            → (salt : List ℕ) (t : Tables) → (book S.Store self.new).may_leave salt t
+            → t ≡ (book S.Store self.old).tables }
+        ensures found { IsCleanBook (book S.Store self.new) → IfOk result
+            (λ b. b ≡ list_any (has_id id) (book S.Store self.old).tables.lines) }
+    {
+        if self.failed {
+            return Err(BookFileError::Failed);
+        }
+        match has(&mut self.conn, id) {
             Ok(found) => Ok(found),
             Err(error) => {
                 self.failed = true;

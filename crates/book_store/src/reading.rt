@@ -1,6 +1,6 @@
 //! The queries, and what their rows say.
 
-ghost use Rattle.std.specs.Prelude.{◌≡◌, ◌≢◌, ◌∷◌, [], ℕ, List, pos, false, map, take, IfNone};
+ghost use Rattle.std.specs.Prelude.{◌≡◌, ◌≢◌, ◌∷◌, [], ℕ, List, pos, false, filter, map, take, IfNone};
 ghost use Rattle.std.specs.Prelude.{IfSome};
 ghost use Rattle.sqlite.specs.declared.types.Value.TheVariants.{Blob, Int};
 ghost use Rattle.sqlite.specs.Held.{state};
@@ -11,7 +11,8 @@ ghost use Rattle.book_store.specs.Queries.{of_request};
 ghost use Rattle.book_store.specs.Queries.{next_lines, open_id, shown_day, shown_id, shown_line};
 ghost use Rattle.book_store.specs.Queries.{shown_mark, shown_salt};
 ghost use Rattle.book_store.specs.Queries.{used, used_in};
-ghost use Rattle.book_store.specs.Lines.{Line, lines_of};
+ghost use Rattle.book_store.specs.Lines.{Line, has_id, lines_of};
+ghost use Rattle.std.specs.List.{list_any};
 ghost use Rattle.book_store.specs.Schema.{book_schema};
 
 use sqlite::types::ValueRef;
@@ -113,6 +114,32 @@ pub fn open_item<S: Alter>(conn: &mut Connection<S>, request: &[u8]) -> Result<O
 {
     let rows = of_request(conn, request)?;
     Ok(open_in(rows.as_slice()))
+}
+
+// The ids of the items that have this id.
+fn of_id<S: Alter>(conn: &mut Connection<S>, id: i64) -> Result<Vec<Row>, Error>
+    ensures mode { conn.old.in_transaction ≡ false → conn.new.in_transaction ≡ false }
+    ensures rows { ShowsRows (λ db. map shown_id (filter (has_id id) (lines_of db)))
+        (state S.Store conn.old) (state S.Store conn.new) result }
+    ensures same { ChangesNothing (state S.Store conn.old) (state S.Store conn.new) result }
+    ensures survives { OnlyReads book_schema (state S.Store conn.old) (state S.Store conn.new) }
+{
+    conn.query_all(
+        "SELECT id FROM item WHERE id = ?1 ORDER BY id",
+        &[ValueRef::Int(id)],
+    )
+}
+
+/// Whether an item has this id.
+pub fn has<S: Alter>(conn: &mut Connection<S>, id: i64) -> Result<bool, Error>
+    ensures mode { conn.old.in_transaction ≡ false → conn.new.in_transaction ≡ false }
+    ensures found { Finds (list_any (has_id id))
+        (state S.Store conn.old) (state S.Store conn.new) result }
+    ensures same { ChangesNothing (state S.Store conn.old) (state S.Store conn.new) result }
+    ensures survives { OnlyReads book_schema (state S.Store conn.old) (state S.Store conn.new) }
+{
+    let rows = of_id(conn, id)?;
+    Ok(!rows.as_slice().is_empty())
 }
 
 // The first day from this one on, if an item has it.

@@ -1,0 +1,4 @@
+mod Sums
+mod Newest
+mod Alone
+mod Books

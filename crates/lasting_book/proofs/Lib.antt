@@ -1,0 +1,4 @@
+mod Sorting
+mod Lines
+mod Reaching
+mod Ties

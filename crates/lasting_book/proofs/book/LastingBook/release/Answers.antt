@@ -1,0 +1,12 @@
+use Rattle.std.proofs.Common.{◌≡◌, ◌≤◌, Some, inr, refl, sym, ap, subst, ◌∙◌, max, arith}
+use Rattle.book_store.specs.Kept.{book}
+use Rattle.day_book.specs.Items.{PlainDays, item_at}
+use Rattle.lasting_book.specs.Tied.{Lasting, Tied, lines_in}
+use Rattle.lasting_book.proofs.Ties.{tied_items, tied_released}
+use Rattle.lasting_book.proofs.book.LastingBook.release.Goals as goal
+
+pub invariant_of-self : goal.invariant_of-self
+invariant_of-self g c =
+    let inside = c.self.inside in
+    tied_items inside.failed (book g.S.Store inside.file) inside.reach inside.days.items c.release.new.self.items c.self.invariant
+    (ap (λ (d : PlainDays). lines_in inside.reach d.items) c.release.ensures.released ∙ tied_released inside.reach c.args.id inside.days.items)
