@@ -236,11 +236,6 @@ recode_in (Some file) None = Some (file, way.From)
 recode_in None (Some file) = Some (file, way.To)
 recode_in _ _ = None
 
--- these are the options of `recode` with these texts of `--from` and `--to`
-abbrev pub IsRecodeOf : Option Text → Option Text → Options → Type 0
-IsRecodeOf from to (Recode profile way) = recode_in from to ≡ Some (profile.now, way)
-IsRecodeOf from to _ = ⊥
-
 -- the options are those of the subcommand `name`, whose own options are in the rows
 abbrev pub AreOptionsAt : Text → List Row → Options → Type 0
 AreOptionsAt name rows (Step o) = (name ≡ codes "step") × AreStepOptions rows o
@@ -250,8 +245,8 @@ AreOptionsAt name rows (Graph flow form) =
     (name ≡ codes "graph") × (Some flow.now ≡ first_of (codes "flow") rows) × (form ≡ graph_form (is_set (first_of (codes "dot") rows)))
 AreOptionsAt name rows (Decode o) = (name ≡ codes "decode") × AreDecodeOptions rows o
 AreOptionsAt name rows (Encode header) = (name ≡ codes "encode") × (header_of (first_of (codes "header") rows) ≡ Some header)
-AreOptionsAt name rows (Recode profile way) =
-    (name ≡ codes "recode") × (recode_in (first_of (codes "from") rows) (first_of (codes "to") rows) ≡ Some (profile.now, way))
+AreOptionsAt name rows (Recode o) =
+    (name ≡ codes "recode") × (recode_in (first_of (codes "from") rows) (first_of (codes "to") rows) ≡ Some (o.profile.now, o.way))
 AreOptionsAt name rows (Recover o) = (name ≡ codes "recover") × AreRecoverOptions rows o
 AreOptionsAt name rows (Journal o) = (name ≡ codes "journal") × AreJournalOptions rows o
 AreOptionsAt name rows (Check o) = (name ≡ codes "check") × AreCheckOptions rows o

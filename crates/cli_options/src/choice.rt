@@ -24,7 +24,7 @@ pub enum Options<'a> {
     Encode { header: u64 },
     /// `recode`: writes the frames from standard input in the spelling of another system, or those of another system in
     /// that of the switch, by the profile file at a path.
-    Recode { profile: &'a str, way: RecodeWay },
+    Recode(RecodeOptions<'a>),
     /// `recover`: finishes what a journal has unfinished, by the flow of the flow file at a path, and
     /// prints its lines.
     Recover(RecoverOptions<'a>),
@@ -66,6 +66,14 @@ pub enum RecodeWay {
     From,
     /// With `--to`, that of the frames that are written.
     To,
+}
+
+/// What `recode` is given.
+#[derive(Clone, Copy)]
+pub struct RecodeOptions<'a> {
+    /// The path of a profile file.
+    pub profile: &'a str,
+    pub way: RecodeWay,
 }
 
 /// What `step` is given.

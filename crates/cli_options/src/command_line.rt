@@ -3,16 +3,14 @@ ghost use Rattle.std.specs.Prelude.{◌≡◌, IfErr, IfOk, None, OnOk, Some, co
 ghost use Rattle.clap.specs.Words.{first_of, found_of, rows_of};
 ghost use Rattle.cli_options.specs.CommandLine.{AreOptionsAt, AreOptionsOf, AreRunOptions};
 ghost use Rattle.cli_options.specs.CommandLine.{AreDecodeOptions, graph_form, header_in, header_of, is_set, journal_form};
-ghost use Rattle.cli_options.specs.CommandLine.{masking_of, number_in};
+ghost use Rattle.cli_options.specs.CommandLine.{masking_of, number_in, recode_in};
 ghost use Rattle.cli_options.specs.CommandLine.{stats_in, text_of, trace_in};
-ghost use Rattle.cli_options.specs.CommandLine.{IsRecodeOf, recode_in};
-ghost use Rattle.cli_options.specs.Refusal.{IsOneProfile};
-ghost use Rattle.cli_options.specs.Refusal.{IsAccepted, IsBadForm, IsBadNumber, IsRefusalAt};
-ghost use Rattle.cli_options.specs.Refusal.{IsDecodeRefusal, IsRefusalOf, IsRunRefusal};
+ghost use Rattle.cli_options.specs.Refusal.{IsAccepted, IsBadForm, IsBadNumber, IsOneProfile};
+ghost use Rattle.cli_options.specs.Refusal.{IsDecodeRefusal, IsRefusalAt, IsRefusalOf, IsRunRefusal};
 
 use crate::choice::{
-    CheckOptions, DecodeOptions, JournalOptions, Options, RecodeWay, RecoverOptions, RunOptions,
-    StatsLines, StepOptions, TraceForm,
+    CheckOptions, DecodeOptions, JournalOptions, Options, RecodeOptions, RecodeWay, RecoverOptions,
+    RunOptions, StatsLines, StepOptions, TraceForm,
 };
 use crate::error::OptionsError;
 use crate::table::switch_command;
@@ -213,17 +211,18 @@ fn decode_options(found: &ArgMatches<'_>) -> Result<DecodeOptions, OptionsError>
 fn recode_options<'a>(
     from: Option<&'a str>,
     to: Option<&'a str>,
-) -> Result<Options<'a>, OptionsError>
-    ensures found { IfOk result (IsRecodeOf (text_of from.entry) (text_of to.entry)) }
+) -> Result<RecodeOptions<'a>, OptionsError>
+    ensures found { IfOk result (λ o. recode_in (text_of from.entry) (text_of to.entry)
+        ≡ Some (o.profile.now, o.way)) }
     ensures refused { IfErr result (λ e. IsOneProfile e
         × (recode_in (text_of from.entry) (text_of to.entry) ≡ None)) }
 {
     match (from, to) {
-        (Some(profile), None) => Ok(Options::Recode {
+        (Some(profile), None) => Ok(RecodeOptions {
             profile,
             way: RecodeWay::From,
         }),
-        (None, Some(profile)) => Ok(Options::Recode {
+        (None, Some(profile)) => Ok(RecodeOptions {
             profile,
             way: RecodeWay::To,
         }),
@@ -255,7 +254,10 @@ fn options_at<'a>(name: &str, found: &ArgMatches<'a>) -> Result<Options<'a>, Opt
         "encode" => Ok(Options::Encode {
             header: header_of(text_at(found, "header"))?,
         }),
-        "recode" => recode_options(text_at(found, "from"), text_at(found, "to")),
+        "recode" => Ok(Options::Recode(recode_options(
+            text_at(found, "from"),
+            text_at(found, "to"),
+        )?)),
         "recover" => match (text_at(found, "flow"), text_at(found, "journal")) {
             (Some(flow), Some(journal)) => Ok(Options::Recover(RecoverOptions {
                 flow,
