@@ -26,3 +26,7 @@ RefusesProfile unread _ = ⊤
 -- the bytes to be read, where they are known, are a file of the profile
 abbrev pub StatesProfile : Option (List ℕ) → ProfileFile → Type 0
 StatesProfile unread f = IfSome unread (λ bytes. IsProfileFile Acquirer f bytes)
+
+-- some bytes, those of a file, state the profile; which they are no clause can say
+abbrev pub IsOfAFile : ProfileFile → Type 0
+IsOfAFile f = (bytes : List ℕ) × IsProfileFile Acquirer f bytes

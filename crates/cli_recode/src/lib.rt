@@ -1,7 +1,8 @@
 //! `recode`: frames of messages as another system writes them, turned into the switch's own, and back.
 //!
-//! [`recode_stream`] reads frames from an input and writes those of the recoded messages, piece by piece.
-//! [`profile_at`] reads the profile file that says how the other system writes.
+//! [`recode`] does so with an input, by the profile file at a path. [`recode_stream`] reads frames from an
+//! input and writes those of the recoded messages, piece by piece. [`profile_at`] reads the profile file
+//! that says how the other system writes.
 //!
 //! # What is proved
 //!
@@ -15,7 +16,9 @@
 //! (`own_frames_are_the_switchs`).
 //!
 //! Of a file's bytes that are known `profile_at` gives exactly the profile that they state, or a fault
-//! that they have (`profile_opened`). What the reports say is only tested.
+//! that they have (`profile_opened`). Of a file at a path no contract knows the bytes: the profile is one
+//! that some bytes state (`IsOfAFile`). `recode` writes nothing if it takes no profile (`IsInputRefusal`).
+//! What the reports say is only tested.
 //!
 //! # Decisions
 //!
@@ -28,6 +31,7 @@
 //!   acquirer is not known here.
 #![tactic(auto)]
 
+mod by_file;
 mod error;
 mod laws;
 mod message;
@@ -35,7 +39,8 @@ mod profile;
 mod recoder;
 mod stream;
 
-pub use error::{ProfileLoadError, RecodeError};
+pub use by_file::{ByFile, recode};
+pub use error::{InputError, InputRefusal, ProfileLoadError, RecodeError};
 pub use laws::own_frames_are_the_switchs;
 pub use message::{Recoding, Way};
 pub use profile::profile_at;

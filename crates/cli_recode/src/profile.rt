@@ -3,7 +3,7 @@
 ghost use Rattle.std.specs.Prelude.{◌≡◌, IfErr, IfOk};
 ghost use Rattle.iso_dialect.specs.declared.profile.Peer.TheVariants.{Acquirer};
 ghost use Rattle.dialect_toml.specs.ProfileFile.{IsProfileFile};
-ghost use Rattle.cli_recode.specs.Profiles.{RefusesBytes, RefusesProfile, StatesProfile};
+ghost use Rattle.cli_recode.specs.Profiles.{IsOfAFile, RefusesBytes, RefusesProfile, StatesProfile};
 
 use crate::error::ProfileLoadError;
 use cli_io::{Input, read_input};
@@ -24,6 +24,7 @@ fn profile_in(alloc: Global, bytes: &[u8]) -> Result<ProfileFile, ProfileLoadErr
 
 // The profile that a reader gives.
 fn profile_from<R: Read + Drop>(alloc: Global, input: R) -> Result<ProfileFile, ProfileLoadError>
+    ensures of_a_file { IfOk result IsOfAFile }
     ensures states { IfOk result (StatesProfile (R.remaining input)) }
     ensures refused { IfErr result (RefusesProfile (R.remaining input)) }
 {
@@ -37,6 +38,7 @@ fn profile_opened<R: Read + Drop>(
     alloc: Global,
     opened: io::Result<R>,
 ) -> Result<ProfileFile, ProfileLoadError>
+    ensures of_a_file { IfOk result IsOfAFile }
     ensures states { IfOk opened (λ input. IfOk result (StatesProfile (R.remaining input))) }
     ensures refused { IfOk opened (λ input. IfErr result (RefusesProfile (R.remaining input))) }
     ensures not_opened { IfErr opened (λ error. result ≡ Err (ProfileLoadError.Open error)) }
@@ -52,6 +54,8 @@ pub fn profile_at<F: Files>(
     alloc: Global,
     files: &F,
     path: &str,
-) -> Result<ProfileFile, ProfileLoadError> {
+) -> Result<ProfileFile, ProfileLoadError>
+    ensures of_a_file { IfOk result IsOfAFile }
+{
     profile_opened(alloc, File::open(files, path))
 }
