@@ -10,7 +10,7 @@ _cardswitch() {
         before=${COMP_WORDS[COMP_CWORD - 2]} sign==
     fi
     case $before$sign in
-        --flow | --flow= | --config | --config= | --journal | --journal= | --log | --log=)
+        --flow | --flow= | --config | --config= | --journal | --journal= | --log | --log= | --from | --from= | --to | --to=)
             mapfile -t COMPREPLY < <(compgen -f -- "$word")
             return ;;
         --sessions | --sessions=)
@@ -28,7 +28,7 @@ _cardswitch() {
             return ;;
     esac
     if [[ $COMP_CWORD -eq 1 ]]; then
-        words="step asm list graph decode encode recover journal check run help --help --version"
+        words="step asm list graph decode encode recode recover journal check run help --help --version"
     else
         case ${COMP_WORDS[1]} in
             step) words="--flow --prompt --switch --help" ;;
@@ -36,13 +36,14 @@ _cardswitch() {
             graph) words="--flow --dot --help" ;;
             decode) words="--mask --header --help" ;;
             encode) words="--header --help" ;;
+            recode) words="--from --to --help" ;;
             recover) words="--flow --config --journal --help" ;;
             check) words="--flow --config --help" ;;
             run) words="--flow --config --journal --log --sessions --header --limit --threads --unordered --trace --stats --help" ;;
             journal)
                 words="--json --clear --help"
                 [[ $word == -* ]] || mapfile -t files < <(compgen -f -- "$word") ;;
-            help) words="step asm list graph decode encode recover journal check run" ;;
+            help) words="step asm list graph decode encode recode recover journal check run" ;;
         esac
     fi
     mapfile -t COMPREPLY < <(compgen -W "$words" -- "$word")

@@ -1,5 +1,5 @@
 #!/usr/bin/env python3
-"""Has tshark's reader of ISO 8583 read what `encode` writes, and `decode` read it too.
+"""Has tshark's reader of ISO 8583 read what `encode` and `recode` write, and `decode` and `recode` read it too.
 
     tests/tshark.py [--seed N] [--count N] [--program PATH]
 
@@ -7,8 +7,13 @@ Random messages are written as text. `cardswitch encode` makes frames of them, a
 `text2pcap` puts each message into a packet, with the two bytes of length that tshark looks for, and `tshark` reads the packets.
 The type and each field that it shows have to be those that the text has, and it may show no others.
 
+Then `cardswitch recode` writes the messages in two other spellings that tshark knows: bitmaps and bytes in binary, and digits in ASCII or
+packed. tshark has to read the same of these, and `recode` has to turn them back.
+
 Both readers have to know a field alike: field 53 is left out (the profile has digits there, tshark has binary data), values are not
-empty, texts are upper-case letters and digits, and field 35 has the form of track 2. Without tshark the test says that it is skipped.
+empty, texts are upper-case letters and digits, and field 35 has the form of track 2. In the other spellings field 35 is left out too, and
+field 128 is the last one of each message, since tshark does not read a message of a few bytes, nor a short field at the end. Without tshark
+the test says that it is skipped.
 """
 
 import argparse
@@ -36,6 +41,10 @@ MOST = 1_300
 
 # What stands between the cells that tshark shows. No message has it.
 SEPARATOR = "\x01"
+
+# The spellings, by the letter that their classes have for digits, with what tshark is told of them.
+BYTES = ["-o", "iso8583.binencode:Bin data not encoded"]
+SPELLINGS = {"A": BYTES, "B": [*BYTES, "-o", "iso8583.charset:Digits represented in nibbles"]}
 
 
 def drawn(chosen, alphabet, size):
@@ -80,22 +89,37 @@ def called(command, given):
     return done.stdout
 
 
-def dumped(frame):
-    """A packet for text2pcap: two bytes of length and the message, in hexadecimal."""
+def packet_of(frame):
+    """Two bytes of length and the message."""
     body = frame[4:]
-    return b"000000 " + (len(body).to_bytes(2, "big") + body).hex(" ").encode() + b"\n"
+    return len(body).to_bytes(2, "big") + body
 
 
-def dissected(frames):
-    """The cells that tshark shows for each frame: the type, and the fields from 2 to 128."""
+def packets_in(stream):
+    """The packets of a stream of such."""
+    made, at = [], 0
+    while at < len(stream):
+        end = at + 2 + int.from_bytes(stream[at : at + 2], "big")
+        made.append(stream[at:end])
+        at = end
+    return made
+
+
+def dumped(packet):
+    """A packet for text2pcap, in hexadecimal."""
+    return b"000000 " + packet.hex(" ").encode() + b"\n"
+
+
+def dissected(packets, told):
+    """The cells that tshark shows for each packet: the type, and the fields from 2 to 128. After binary data it shows a backtick."""
     columns = ["iso8583.mti", *(f"iso8583.bit{number}" for number in range(2, 129))]
     with tempfile.TemporaryDirectory() as room:
         path = os.path.join(room, "packets")
-        called(["text2pcap", "-q", "-T", "1234,5678", "-", path], b"".join(map(dumped, frames)))
+        called(["text2pcap", "-q", "-T", "1234,5678", "-", path], b"".join(map(dumped, packets)))
         words = ["tshark", "-r", path, "-d", "tcp.port==5678,iso8583", "-o", "iso8583.len_endian:Big endian"]
-        words += ["-T", "fields", "-E", f"separator={SEPARATOR}"]
+        words += [*told, "-T", "fields", "-E", f"separator={SEPARATOR}"]
         shown = called([*words, *(word for column in columns for word in ("-e", column))], b"")
-    return [line.upper().split(SEPARATOR.encode()) for line in shown.splitlines()]
+    return [[cell.rstrip(b"`") for cell in line.upper().split(SEPARATOR.encode())] for line in shown.splitlines()]
 
 
 def cells(mti, fields):
@@ -111,12 +135,49 @@ def differences(came, wanted):
     return [f"tshark has {name} {a}, wanted {b}" for name, a, b in zip(names, came, wanted) if a != b]
 
 
+def row(number, letter):
+    """The table of a field in a profile file."""
+    content, digits, size = messages.FORMS[number]
+    lead, kind = {0: "", 2: "LL", 3: "LLL"}[digits], "NUM" if content == messages.N else "CHAR"
+    if content == messages.BINARY:
+        name, size = "IFB_BINARY", size // 2
+    elif digits:
+        name = f"IF{letter}_{lead}{kind}"
+    else:
+        name = f"IF{letter}_NUMERIC" if content == messages.N else "IF_CHAR"
+    return f'{{ number = {number}, class = "{name}", length = {size} }},\n'
+
+
+def profile(letter):
+    """The text of the profile file of a spelling."""
+    rows = "".join(row(number, letter) for number in sorted(messages.FORMS))
+    return f'field = [\n{rows}]\nmessage = {{ type = "IF{letter}_NUMERIC", bitmap = "IFB_BITMAP" }}\nframe = {{ length = "binary2" }}\n'
+
+
+def spelled(program, letter, sent):
+    """What is wrong with the messages in a spelling, by the number of the message."""
+    sent = [(mti, {number: it for number, it in fields.items() if number != 35} | {128: b"0123456789ABCDEF"}) for mti, fields in sent]
+    stream = b"".join(messages.framed(messages.encode(*it)) for it in sent)
+    with tempfile.NamedTemporaryFile("w", suffix=".toml") as file:
+        file.write(profile(letter))
+        file.flush()
+        made = called([program, "recode", "--to", file.name], stream)
+        back = messages.frames(called([program, "recode", "--from", file.name], made))
+    shown = dissected(packets_in(made), SPELLINGS[letter])
+    if not len(back) == len(shown) == len(sent):
+        raise RuntimeError(f"spelling {letter}: {len(sent)} messages; recode gives {len(back)} back, tshark shows {len(shown)}")
+    for number, (frame, it) in enumerate(zip(messages.frames(stream), sent)):
+        found = differences(shown[number], cells(*it)) + ([] if back[number] == frame else [f"{back[number]} is back, wanted {frame}"])
+        if found:
+            yield number, f"spelling {letter}: " + "; ".join(found)
+
+
 def faults(program, sent):
     """What is wrong, by the number of the message, 0 for the first."""
     texts = [paragraph(number, *it) for number, it in enumerate(sent, 1)]
     stream = called([program, "encode"], b"".join(texts))
     read, frames = paragraphs(called([program, "decode"], stream)), messages.frames(stream)
-    shown = dissected(frames)
+    shown = dissected(map(packet_of, frames), [])
     if not len(read) == len(frames) == len(shown) == len(sent):
         raise RuntimeError(f"{len(frames)} frames of {len(sent)} messages; decode has {len(read)}, tshark {len(shown)}")
     for number, (text, it) in enumerate(zip(texts, sent)):
@@ -124,6 +185,8 @@ def faults(program, sent):
         found += [] if read[number] == text else [f"decode has {read[number]}, wanted {text}"]
         if found:
             yield number, "; ".join(found)
+    for letter in SPELLINGS:
+        yield from spelled(program, letter, sent)
 
 
 def main():
@@ -138,7 +201,7 @@ def main():
         return 0
     sent = [message(given.seed + number) for number in range(given.count)]
     try:
-        found = [*faults(given.program, sent)]
+        found = [*{number: fault for number, fault in faults(given.program, sent)}.items()]
     except (RuntimeError, OSError) as fault:
         print(f"FAILED tshark --seed {given.seed} --count {given.count}: {fault}")
         found = [None] * given.count

@@ -211,6 +211,7 @@ class Program:
     def folder_of(self, case):
         folder = tempfile.mkdtemp(dir=self.room)
         for name, text in case.files.items():
+            os.makedirs(os.path.dirname(f"{folder}/{name}"), exist_ok=True)
             with open(f"{folder}/{name}", "wb") as file:
                 file.write(text)
         return folder

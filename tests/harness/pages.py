@@ -276,6 +276,7 @@ def files_in(*folders):
 def cases_of(top):
     """The examples of all pages, run in a folder with the files of examples/, and what else is wanted of a page."""
     examples, hosts = files_in(top, "examples"), files_in(top, "examples", "hosts")
+    examples |= {f"profiles/{name}": text for name, text in files_in(top, "examples", "profiles").items()}
     pages = sorted(glob.glob(os.path.join(glob.escape(top), "docs", "**", "*.md"), recursive=True))
     for path in [os.path.join(top, "README.md"), *pages]:
         with open(path, encoding="utf-8") as file:

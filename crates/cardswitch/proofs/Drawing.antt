@@ -27,6 +27,7 @@ no_flow form path before (error.JournalFile p cause) h = absurd h
 no_flow form path before (error.Journal p cause) h = absurd h
 no_flow form path before (error.Engine p cause) h = absurd h
 no_flow form path before error.Refused h = absurd h
+no_flow form path before (error.Recode e) h = absurd h
 no_flow form path before (error.Read e) h = absurd h
 no_flow form path before (error.Write e) h = absurd h
 no_flow form path before (error.Step e) h = absurd h

@@ -16,12 +16,13 @@ use Rattle.cli_options.specs.Refusal.{status_of}
 use Rattle.cli_options.specs.declared.choice.DecodeOptions.{DecodeOptions}
 use Rattle.cli_options.specs.declared.choice.Options.{Options}
 use Rattle.cli_options.specs.declared.choice.Options.TheVariants.{Asm, Check, Decode, Encode, Graph, Journal, List as ListImage}
-use Rattle.cli_options.specs.declared.choice.Options.TheVariants.{Recover, Run, Step}
+use Rattle.cli_options.specs.declared.choice.Options.TheVariants.{Recode, Recover, Run, Step}
 use Rattle.cli_options.specs.declared.error.OptionsError.{OptionsError}
 use Rattle.cardswitch.specs.Checking.{IsCheckDone, IsCheckFault}
 use Rattle.cardswitch.specs.Errors.{error_of_io, run_status}
 use Rattle.cardswitch.specs.Drawings.{IsDrawFault, IsDrawn}
 use Rattle.cardswitch.specs.Looking.{IsLookFault, IsLooked}
+use Rattle.cardswitch.specs.Recoding.{IsRecodeFault, IsRecoded}
 use Rattle.cardswitch.specs.Runs.{Answered, IsRecoverFault, IsRunFault, Recovered}
 use Rattle.cardswitch.specs.Steps.{IsStepFaultBy, IsSteppedBy}
 use Rattle.cardswitch.specs.declared.error.RunError.{RunError}
@@ -49,6 +50,7 @@ IsDone files ListImage unread written written_now = IsListed unread written writ
 IsDone files (Graph flow form) unread written written_now = IsDrawn form written written_now
 IsDone files (Decode o) unread written written_now = IsDecodedStream (style_of o) unread written written_now false
 IsDone files (Encode header) unread written written_now = IsEncodedText header unread written written_now
+IsDone files (Recode o) unread written written_now = IsRecoded o unread written written_now
 
 -- why a flow file from standard input is refused: it has the fault that is reported, and nothing is written
 abbrev pub IsAsmError : Option (List ℕ) → Option (List ℕ) → Option (List ℕ) → RunError → Type 0
@@ -95,6 +97,7 @@ IsErrorOf ListImage unread written written_now e = IsListError unread written wr
 IsErrorOf (Graph flow form) unread written written_now e = IsDrawFault form flow.now written written_now e
 IsErrorOf (Decode o) unread written written_now e = IsDecodeError (style_of o) unread written written_now e
 IsErrorOf (Encode header) unread written written_now e = IsEncodeFault header unread written written_now e
+IsErrorOf (Recode o) unread written written_now e = IsRecodeFault o unread written written_now e
 
 -- a run reports messages that it passes over, and writes its trace, and is done all the same; so is a session at a prompt, which
 -- reports lines that it refuses

@@ -6,6 +6,8 @@ use Rattle.cli_encode.specs.declared.error.EncodeError.{EncodeError}
 use Rattle.cli_encode.specs.declared.error.EncodeError.TheVariants as encode
 use Rattle.cli_flows.specs.declared.error.FlowsError.{FlowsError}
 use Rattle.cli_flows.specs.declared.error.FlowsError.TheVariants as flows
+use Rattle.cli_recode.specs.declared.error.InputError.{InputError}
+use Rattle.cli_recode.specs.declared.error.InputError.TheVariants as recode
 use Rattle.cli_io.specs.declared.error.IoError.{IoError}
 use Rattle.cli_io.specs.declared.error.IoError.TheVariants as io
 use Rattle.run_setup.specs.declared.error.SetupError.{SetupError}
@@ -15,7 +17,7 @@ use Rattle.cli_step.specs.declared.error.StepError.TheVariants as step
 use Rattle.cardswitch.specs.declared.error.JournalFault.TheVariants as fault
 use Rattle.cardswitch.specs.declared.error.RunError.{RunError}
 use Rattle.cardswitch.specs.declared.error.RunError.TheVariants.{BadLimit, Engine, Input, Journal, JournalFile, OutOfMemory, ProfileFile}
-use Rattle.cardswitch.specs.declared.error.RunError.TheVariants.{Read, Serve, SetUp, Step, Text, Write}
+use Rattle.cardswitch.specs.declared.error.RunError.TheVariants.{Read, Recode, Serve, SetUp, Step, Text, Write}
 use Rattle.run_switch.specs.declared.error.ServeError.{ServeError}
 use Rattle.run_switch.specs.declared.error.ServeError.TheVariants as serve
 
@@ -61,6 +63,10 @@ error_of_check e = SetUp e
 abbrev pub error_of_encode : EncodeError → RunError
 error_of_encode (encode.Text e) = Text e
 error_of_encode (encode.Io e) = error_of_io e
+
+abbrev pub error_of_recode : InputError → RunError
+error_of_recode (recode.Refused e) = Recode e
+error_of_recode (recode.Io e) = error_of_io e
 
 abbrev pub error_of_flows : FlowsError → RunError
 error_of_flows (flows.Io e) = error_of_io e

@@ -10,6 +10,7 @@
 -- | `recover` | `Recovered` | `IsRecoverFault` | `Runs.antt` |
 -- | `step` | `IsStepped` | `IsStepFault` | `Steps.antt` |
 -- | `graph` | `IsDrawn` | `IsDrawFault` | `Drawings.antt` |
+-- | `recode` | `IsRecoded` | `IsRecodeFault` | `Recoding.antt` |
 -- | `journal` | `IsLooked` | `IsLookFault` | `Looking.antt` |
 --
 -- `IsFound` is the journal of the file that the options or the configuration name (`IsOfFile`),
@@ -22,4 +23,5 @@ pub mod Runs
 pub mod Steps
 pub mod Drawings
 pub mod Looking
+pub mod Recoding
 pub mod Done

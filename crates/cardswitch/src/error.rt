@@ -1,7 +1,7 @@
 //! Why a run of the program ends early, and with which exit status.
 ghost use Rattle.std.specs.Prelude.{◌≡◌};
 ghost use Rattle.cardswitch.specs.Errors.{error_of_check, error_of_encode, error_of_flows, error_of_io};
-ghost use Rattle.cardswitch.specs.Errors.{error_of_serve, error_of_setup, error_of_step};
+ghost use Rattle.cardswitch.specs.Errors.{error_of_recode, error_of_serve, error_of_setup, error_of_step};
 ghost use Rattle.cardswitch.specs.Errors.{error_at, run_status};
 ghost use Rattle.cardswitch.specs.declared.error.RunError.TheVariants.{OutOfMemory};
 
@@ -9,7 +9,7 @@ use cli_check::CheckError;
 use cli_encode::{EncodeError, TextError};
 use cli_flows::FlowsError;
 use cli_io::IoError;
-use cli_recode::ProfileLoadError;
+use cli_recode::{InputError, InputRefusal, ProfileLoadError};
 use cli_step::StepError;
 use journal_store::JournalError;
 use run_setup::{ConfigFileError, SetupError};
@@ -110,6 +110,9 @@ pub enum RunError {
     /// The profile file at the path is not taken.
     #[error("{}: {cause}", .path.as_str())]
     ProfileFile { path: Text, cause: ProfileLoadError },
+    /// The profile file of `recode` is refused, or something of what it was to recode.
+    #[error("{0}")]
+    Recode(InputRefusal),
     /// No memory was left.
     #[error("out of memory")]
     OutOfMemory,
@@ -201,6 +204,17 @@ impl From<EncodeError> for RunError {
         match error {
             EncodeError::Text(error) => RunError::Text(error),
             EncodeError::Io(error) => RunError::from(error),
+        }
+    }
+}
+
+impl From<InputError> for RunError {
+    ghost from_gives = { λ e f. f ≡ error_of_recode e };
+
+    fn from(error: InputError) -> RunError {
+        match error {
+            InputError::Refused(refusal) => RunError::Recode(refusal),
+            InputError::Io(error) => RunError::from(error),
         }
     }
 }

@@ -28,6 +28,10 @@
 //!   terminal is only tested.
 //! - The fault of the flow file of `step` comes first, and nothing is written then. After a fault of
 //!   its script what was written before stands (`IsStepFault`, `step_over`).
+//! - `recode` that is done has written the frames of what all messages of its input are recoded to, by
+//!   the profile of some file (`IsRecoded`). If the profile file is refused, nothing is written; if
+//!   something of the input is, what can be recoded is written (`IsRecodeFault`). No contract says what
+//!   the file at its path holds.
 //! - `graph` that is done has written the picture of a checked flow, by the language of `--dot`
 //!   (`IsDrawn`). Of a refused flow file nothing is written; after a failed write a beginning of the
 //!   picture is (`IsDrawFault`).

@@ -7,6 +7,7 @@ ghost use Rattle.cardswitch.specs.Done.{IsErrorOf, IsFailed, IsListError, IsQuie
 ghost use Rattle.cardswitch.specs.Done.{refused_status, style_of};
 ghost use Rattle.cardswitch.specs.Drawings.{IsDrawFault, IsDrawn};
 ghost use Rattle.cardswitch.specs.Errors.{run_status};
+ghost use Rattle.cardswitch.specs.Recoding.{IsRecodeFault, IsRecoded, way_of};
 ghost use Rattle.cli_decode.specs.Decoded.{IsDecodedStream};
 ghost use Rattle.cli_flows.specs.Subcommands.{IsAssembled, IsListed};
 ghost use Rattle.cli_io.specs.Errors.{IsOfWriting};
@@ -25,7 +26,8 @@ use cli_forms::GraphForm;
 use cli_graph::draw;
 use cli_io::{Input, IoError, write_out};
 use cli_options::OptionsError;
-use cli_options::choice::{DecodeOptions, Options};
+use cli_options::choice::{DecodeOptions, Options, RecodeOptions, RecodeWay};
+use cli_recode::{ByFile, Way};
 use sqlite_std_file::File;
 use sqlite_store::FileStore;
 use sqlite_trees::store::Store;
@@ -143,6 +145,36 @@ fn encode<R: Read + Drop, O: Write>(
     Ok(encode_stream(alloc, header as usize, &mut Input::new(input), out)?)
 }
 
+fn way_of(way: RecodeWay) -> Way
+    ensures { result ≡ way_of way }
+{
+    match way {
+        RecodeWay::From => Way::FromOther,
+        RecodeWay::To => Way::ToOther,
+    }
+}
+
+fn recode<R: Read + Drop, O: Write, E: Write>(
+    alloc: Global,
+    rt: &HostRuntime,
+    options: &RecodeOptions<'_>,
+    input: R,
+    out: &mut O,
+    err: &mut E,
+) -> Result<(), RunError>
+    ensures quiet { OnOk result (Keeps (E.contents err.old) (E.contents err.new)) }
+    ensures done { OnOk result (IsRecoded options.now
+        (R.remaining input) (O.contents out.old) (O.contents out.new)) }
+    ensures failed { IfErr result (IsRecodeFault options.now
+        (R.remaining input) (O.contents out.old) (O.contents out.new)) }
+{
+    let by = ByFile {
+        path: options.profile,
+        way: way_of(options.way),
+    };
+    Ok(cli_recode::recode(alloc, rt, by, input, out, err)?)
+}
+
 fn run_subcommand<
     T: Threads + Wait + Clock + Sync + Clone + Drop + Send + 'static,
     R: Read + Drop + Send + 'static,
@@ -155,7 +187,8 @@ fn run_subcommand<
     out: &mut O,
     err: &mut E,
 ) -> Result<(), RunError>
-    ensures quiet { IsQuiet options.now → Keeps (E.contents err.old) (E.contents err.new) }
+    ensures quiet { IsQuiet options.now
+        → OnOk result (Keeps (E.contents err.old) (E.contents err.new)) }
     ensures done { OnOk result (IsDone ⟦<FileStore<File> as Store>⟧ options.now
         (R.remaining input) (O.contents out.old) (O.contents out.new)) }
     ensures failed { IfErr result (IsErrorOf options.now
@@ -170,6 +203,7 @@ fn run_subcommand<
         Options::Graph { flow, form } => graph(alloc, rt, flow, *form, out),
         Options::Decode(options) => decode(alloc, options, input, out),
         Options::Encode { header } => encode(alloc, *header, input, out),
+        Options::Recode(options) => recode(alloc, rt, options, input, out, err),
         Options::Recover(options) => recover(machine, options, out),
         Options::Journal(options) => look_into(alloc, rt, options, out),
         Options::Check(options) => check(alloc, rt, options),

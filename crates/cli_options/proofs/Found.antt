@@ -9,7 +9,7 @@ use Rattle.cli_options.specs.CommandLine.{switch_app}
 use Rattle.cli_options.specs.Conversion.{Carries}
 use Rattle.cli_options.specs.Refusal.{IsRefusalAt, IsRefusalOf}
 use Rattle.cli_options.specs.declared.error.OptionsError.{OptionsError}
-use Rattle.cli_options.specs.declared.error.OptionsError.TheVariants.{BadCommandLine, BadForm, BadNumber, NoSubcommand, OutOfMemory}
+use Rattle.cli_options.specs.declared.error.OptionsError.TheVariants.{BadCommandLine, BadForm, BadNumber, NoSubcommand, OneProfile, OutOfMemory}
 
 pub carried : {A : Type 0} (words : List Text) (app : App) (e : Error) → app ≡ switch_app → HasKind (fault_of app words) e
     → (r : Result A OptionsError) → IsErrAnd r (Carries e) → IfErr r (IsRefusalOf words)
@@ -21,6 +21,7 @@ carried words app e shape (inr among) (Err (BadCommandLine f)) carries =
 carried words app e shape among (Err NoSubcommand) carries = elim carries [ ]
 carried words app e shape among (Err (BadNumber _ _ _)) carries = elim carries [ ]
 carried words app e shape among (Err (BadForm _)) carries = elim carries [ ]
+carried words app e shape among (Err OneProfile) carries = elim carries [ ]
 carried words app e shape among (Err OutOfMemory) carries = tt
 
 pub always : {A E X : Type 0} (r : Result A E) → X → OnOk r X
@@ -36,5 +37,6 @@ pub refused_at : (words : List Text) (name : Text) (rows : List Row) (e : Option
 refused_at words name rows NoSubcommand is refusal = rw is refusal
 refused_at words name rows (BadNumber _ _ _) is refusal = rw is refusal
 refused_at words name rows (BadForm _) is refusal = rw is refusal
+refused_at words name rows OneProfile is refusal = rw is refusal
 refused_at words name rows (BadCommandLine _) is refusal = elim refusal [ ]
 refused_at words name rows OutOfMemory is refusal = tt

@@ -15,10 +15,12 @@ use Rattle.clap.specs.Words.{App, Row, Rule, Text, app_of, first_of, new_app, ne
 use Rattle.clap.specs.declared.builder.Command.{Command}
 use Rattle.clap.specs.declared.builder.Command.TheViews.{out-Command}
 use Rattle.cli_options.specs.declared.choice.Options.{Options}
-use Rattle.cli_options.specs.declared.choice.Options.TheVariants.{Asm, Check, Decode, Encode, Graph, Journal, List as ListImage, Recover, Run, Step}
+use Rattle.cli_options.specs.declared.choice.Options.TheVariants.{Asm, Check, Decode, Encode, Graph, Journal, List as ListImage, Recode, Recover, Run, Step}
 use Rattle.cli_options.specs.declared.choice.CheckOptions.{CheckOptions}
 use Rattle.cli_options.specs.declared.choice.DecodeOptions.{DecodeOptions}
 use Rattle.cli_options.specs.declared.choice.JournalOptions.{JournalOptions}
+use Rattle.cli_options.specs.declared.choice.RecodeWay.{RecodeWay}
+use Rattle.cli_options.specs.declared.choice.RecodeWay.TheVariants as way
 use Rattle.cli_options.specs.declared.choice.RecoverOptions.{RecoverOptions}
 use Rattle.cli_options.specs.declared.choice.StepOptions.{StepOptions}
 use Rattle.cli_options.specs.declared.choice.RunOptions.{RunOptions}
@@ -85,6 +87,10 @@ decode_app = with_rule (with_rule (new_app (codes "decode")) (flag_rule (codes "
 abbrev pub encode_app : App
 encode_app = with_rule (new_app (codes "encode")) (option_rule (codes "header"))
 
+-- `recode --from FILE` or `recode --to FILE`
+abbrev pub recode_app : App
+recode_app = with_rule (with_rule (new_app (codes "recode")) (option_rule (codes "from"))) (option_rule (codes "to"))
+
 -- `recover --flow PATH [--config PATH] --journal PATH`
 abbrev pub recover_app : App
 recover_app = with_rule (with_rule (with_rule (new_app (codes "recover")) (needed_rule (codes "flow"))) (option_rule (codes "config")))
@@ -115,8 +121,8 @@ program_app = record (new_app (codes "cardswitch")) {
 -- the program with its subcommands
 abbrev pub switch_app : App
 switch_app = with_subcommand (with_subcommand (with_subcommand (with_subcommand
-    (with_subcommand (with_subcommand (with_subcommand (with_subcommand (with_subcommand (with_subcommand program_app step_app.top) asm_app.top)
-    list_app.top) graph_app.top) decode_app.top) encode_app.top) recover_app.top) journal_app.top) check_app.top) run_app.top
+    (with_subcommand (with_subcommand (with_subcommand (with_subcommand (with_subcommand (with_subcommand (with_subcommand program_app step_app.top) asm_app.top)
+    list_app.top) graph_app.top) decode_app.top) encode_app.top) recode_app.top) recover_app.top) journal_app.top) check_app.top) run_app.top
 
 -- the text that a borrow shows
 abbrev pub text_of : Option (Bor Text) → Option Text
@@ -224,6 +230,12 @@ pub record AreCheckOptions (rows : List Row) (o : CheckOptions) : Type 0 where
   pub flow : Some o.flow.now ≡ first_of (codes "flow") rows
   pub config : text_of o.config ≡ first_of (codes "config") rows
 
+-- the profile file of `recode`, and whose it is: exactly one of its options has to be given
+abbrev pub recode_in : Option Text → Option Text → Option (Text × RecodeWay)
+recode_in (Some file) None = Some (file, way.From)
+recode_in None (Some file) = Some (file, way.To)
+recode_in _ _ = None
+
 -- the options are those of the subcommand `name`, whose own options are in the rows
 abbrev pub AreOptionsAt : Text → List Row → Options → Type 0
 AreOptionsAt name rows (Step o) = (name ≡ codes "step") × AreStepOptions rows o
@@ -233,6 +245,8 @@ AreOptionsAt name rows (Graph flow form) =
     (name ≡ codes "graph") × (Some flow.now ≡ first_of (codes "flow") rows) × (form ≡ graph_form (is_set (first_of (codes "dot") rows)))
 AreOptionsAt name rows (Decode o) = (name ≡ codes "decode") × AreDecodeOptions rows o
 AreOptionsAt name rows (Encode header) = (name ≡ codes "encode") × (header_of (first_of (codes "header") rows) ≡ Some header)
+AreOptionsAt name rows (Recode o) =
+    (name ≡ codes "recode") × (recode_in (first_of (codes "from") rows) (first_of (codes "to") rows) ≡ Some (o.profile.now, o.way))
 AreOptionsAt name rows (Recover o) = (name ≡ codes "recover") × AreRecoverOptions rows o
 AreOptionsAt name rows (Journal o) = (name ≡ codes "journal") × AreJournalOptions rows o
 AreOptionsAt name rows (Check o) = (name ≡ codes "check") × AreCheckOptions rows o

@@ -9,7 +9,7 @@ use Rattle.cli_options.specs.declared.choice.RunOptions.{RunOptions}
 use Rattle.cli_options.specs.declared.choice.Options.{Options}
 use Rattle.cli_options.specs.declared.error.OptionsError.{OptionsError}
 use Rattle.cli_options.specs.declared.error.OptionsError.TheVariants.{BadCommandLine, BadForm, BadNumber, NoSubcommand}
-use Rattle.cli_options.specs.declared.error.OptionsError.TheVariants.{OutOfMemory}
+use Rattle.cli_options.specs.declared.error.OptionsError.TheVariants.{OneProfile, OutOfMemory}
 
 -- the table finds no fault in the words
 abbrev pub IsAccepted : List Text → Type 0
@@ -21,6 +21,7 @@ IsRefusalOf words (BadCommandLine e) = IsAmong (kind_of e) (fault_of switch_app 
 IsRefusalOf words NoSubcommand = (o : Options) → AreOptionsOf words o → ⊥
 IsRefusalOf words (BadNumber name expected found) = (o : Options) → AreOptionsOf words o → ⊥
 IsRefusalOf words (BadForm found) = (o : Options) → AreOptionsOf words o → ⊥
+IsRefusalOf words OneProfile = (o : Options) → AreOptionsOf words o → ⊥
 IsRefusalOf words OutOfMemory = ⊤
 
 abbrev pub IsBadNumber : OptionsError → Type 0
@@ -31,11 +32,16 @@ abbrev pub IsBadForm : OptionsError → Type 0
 IsBadForm (BadForm found) = ⊤
 IsBadForm _ = ⊥
 
+abbrev pub IsOneProfile : OptionsError → Type 0
+IsOneProfile OneProfile = ⊤
+IsOneProfile _ = ⊥
+
 -- the rows of a subcommand are refused, which give no options
 abbrev pub IsRefusalAt : Text → List Row → OptionsError → Type 0
 IsRefusalAt name rows NoSubcommand = IsNoSubcommand name rows
 IsRefusalAt name rows (BadNumber option expected found) = IsNoSubcommand name rows
 IsRefusalAt name rows (BadForm found) = IsNoSubcommand name rows
+IsRefusalAt name rows OneProfile = IsNoSubcommand name rows
 IsRefusalAt name rows _ = ⊥
 
 -- the same of the rows of `run`
@@ -61,4 +67,5 @@ status_of (BadCommandLine e) = kind_status (kind_of e)
 status_of NoSubcommand = 2
 status_of (BadNumber name expected found) = 2
 status_of (BadForm found) = 2
+status_of OneProfile = 2
 status_of OutOfMemory = 4

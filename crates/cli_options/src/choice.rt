@@ -22,6 +22,9 @@ pub enum Options<'a> {
     /// `encode`: writes the frames of the messages whose text, as `decode` prints it, comes from standard input. The
     /// header before each message has `header` bytes, 0 to 64.
     Encode { header: u64 },
+    /// `recode`: writes the frames from standard input in the spelling of another system, or those of another system in
+    /// that of the switch, by the profile file at a path.
+    Recode(RecodeOptions<'a>),
     /// `recover`: finishes what a journal has unfinished, by the flow of the flow file at a path, and
     /// prints its lines.
     Recover(RecoverOptions<'a>),
@@ -54,6 +57,23 @@ impl<'a> Options<'a> {
             other => other,
         }
     }
+}
+
+/// Whose spelling the profile file of `recode` is.
+#[derive(Clone, Copy)]
+pub enum RecodeWay {
+    /// With `--from`, that of the frames that are read.
+    From,
+    /// With `--to`, that of the frames that are written.
+    To,
+}
+
+/// What `recode` is given.
+#[derive(Clone, Copy)]
+pub struct RecodeOptions<'a> {
+    /// The path of a profile file.
+    pub profile: &'a str,
+    pub way: RecodeWay,
 }
 
 /// What `step` is given.

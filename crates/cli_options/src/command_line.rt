@@ -3,14 +3,14 @@ ghost use Rattle.std.specs.Prelude.{◌≡◌, IfErr, IfOk, None, OnOk, Some, co
 ghost use Rattle.clap.specs.Words.{first_of, found_of, rows_of};
 ghost use Rattle.cli_options.specs.CommandLine.{AreOptionsAt, AreOptionsOf, AreRunOptions};
 ghost use Rattle.cli_options.specs.CommandLine.{AreDecodeOptions, graph_form, header_in, header_of, is_set, journal_form};
-ghost use Rattle.cli_options.specs.CommandLine.{masking_of, number_in};
+ghost use Rattle.cli_options.specs.CommandLine.{masking_of, number_in, recode_in};
 ghost use Rattle.cli_options.specs.CommandLine.{stats_in, text_of, trace_in};
-ghost use Rattle.cli_options.specs.Refusal.{IsAccepted, IsBadForm, IsBadNumber, IsRefusalAt};
-ghost use Rattle.cli_options.specs.Refusal.{IsDecodeRefusal, IsRefusalOf, IsRunRefusal};
+ghost use Rattle.cli_options.specs.Refusal.{IsAccepted, IsBadForm, IsBadNumber, IsOneProfile};
+ghost use Rattle.cli_options.specs.Refusal.{IsDecodeRefusal, IsRefusalAt, IsRefusalOf, IsRunRefusal};
 
 use crate::choice::{
-    CheckOptions, DecodeOptions, JournalOptions, Options, RecoverOptions, RunOptions, StatsLines,
-    StepOptions, TraceForm,
+    CheckOptions, DecodeOptions, JournalOptions, Options, RecodeOptions, RecodeWay, RecoverOptions,
+    RunOptions, StatsLines, StepOptions, TraceForm,
 };
 use crate::error::OptionsError;
 use crate::table::switch_command;
@@ -207,6 +207,29 @@ fn decode_options(found: &ArgMatches<'_>) -> Result<DecodeOptions, OptionsError>
     })
 }
 
+/// The options of `recode`: a profile file and which way, if exactly one of its options was given.
+fn recode_options<'a>(
+    from: Option<&'a str>,
+    to: Option<&'a str>,
+) -> Result<RecodeOptions<'a>, OptionsError>
+    ensures found { IfOk result (λ o. recode_in (text_of from.entry) (text_of to.entry)
+        ≡ Some (o.profile.now, o.way)) }
+    ensures refused { IfErr result (λ e. IsOneProfile e
+        × (recode_in (text_of from.entry) (text_of to.entry) ≡ None)) }
+{
+    match (from, to) {
+        (Some(profile), None) => Ok(RecodeOptions {
+            profile,
+            way: RecodeWay::From,
+        }),
+        (None, Some(profile)) => Ok(RecodeOptions {
+            profile,
+            way: RecodeWay::To,
+        }),
+        _ => Err(OptionsError::OneProfile),
+    }
+}
+
 /// The options of the subcommand `name`, by what clap found for it.
 fn options_at<'a>(name: &str, found: &ArgMatches<'a>) -> Result<Options<'a>, OptionsError>
     ensures found { IfOk result (AreOptionsAt name.now (rows_of (found_of found.now))) }
@@ -231,6 +254,10 @@ fn options_at<'a>(name: &str, found: &ArgMatches<'a>) -> Result<Options<'a>, Opt
         "encode" => Ok(Options::Encode {
             header: header_of(text_at(found, "header"))?,
         }),
+        "recode" => Ok(Options::Recode(recode_options(
+            text_at(found, "from"),
+            text_at(found, "to"),
+        )?)),
         "recover" => match (text_at(found, "flow"), text_at(found, "journal")) {
             (Some(flow), Some(journal)) => Ok(Options::Recover(RecoverOptions {
                 flow,

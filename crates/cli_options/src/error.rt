@@ -29,6 +29,9 @@ pub enum OptionsError {
     /// The value of `--trace` is not a form of the trace.
     #[error("error: invalid value {0} for '--trace <FORM>': expected text or json\n")]
     BadForm(Quoted),
+    /// `recode` is given no profile file, or two.
+    #[error("error: expected one of '--from <FILE>' and '--to <FILE>'\n")]
+    OneProfile,
     /// No memory was left to read the words.
     #[error("error: out of memory\n")]
     OutOfMemory,
@@ -51,7 +54,8 @@ impl OptionsError {
             OptionsError::BadCommandLine(error) => kind_status(error.kind()),
             OptionsError::NoSubcommand
             | OptionsError::BadNumber { .. }
-            | OptionsError::BadForm(_) => 2,
+            | OptionsError::BadForm(_)
+            | OptionsError::OneProfile => 2,
             OptionsError::OutOfMemory => 4,
         }
     }

@@ -44,7 +44,7 @@ const FLOW: OptionRow<'static> = OptionRow {
     is_required: true,
 };
 
-const COMMANDS: [CommandRow<'static>; 10] = [
+const COMMANDS: [CommandRow<'static>; 11] = [
     CommandRow {
         name: "step",
         about: "Runs a script of transactions from standard input and prints one line for each step",
@@ -119,6 +119,24 @@ const COMMANDS: [CommandRow<'static>; 10] = [
             help: "The bytes of a header before each message of a frame, 0 to 64, which the text has in hexadecimal [default: 0]",
             is_required: false,
         }],
+    },
+    CommandRow {
+        name: "recode",
+        about: "Writes frames from standard input in another spelling, by a profile file; takes --from or --to",
+        options: &[
+            OptionRow {
+                name: "from",
+                given: Given::Value("FILE"),
+                help: "The profile file of the frames that are read; the switch's own are written",
+                is_required: false,
+            },
+            OptionRow {
+                name: "to",
+                given: Given::Value("FILE"),
+                help: "The profile file of the frames that are written; the switch's own are read",
+                is_required: false,
+            },
+        ],
     },
     CommandRow {
         name: "recover",

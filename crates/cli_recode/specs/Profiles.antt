@@ -26,3 +26,7 @@ RefusesProfile peer unread _ = ⊤
 -- the bytes to be read, where they are known, are a file of the profile
 abbrev pub StatesProfile : Peer → Option (List ℕ) → ProfileFile → Type 0
 StatesProfile peer unread f = IfSome unread (λ bytes. IsProfileFile peer f bytes)
+
+-- some bytes, those of a file, state the profile; which they are no clause can say
+abbrev pub IsOfAFile : Peer → ProfileFile → Type 0
+IsOfAFile peer f = (bytes : List ℕ) × IsProfileFile peer f bytes

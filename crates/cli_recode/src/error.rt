@@ -3,6 +3,8 @@
 ghost use Rattle.std.specs.Prelude.{◌≡◌};
 ghost use Rattle.cli_recode.specs.Conversion.{error_of_decode, error_of_frame};
 ghost use Rattle.cli_recode.specs.Conversion.{error_of_profile, error_of_write};
+ghost use Rattle.cli_io.specs.declared.error.IoError.TheVariants as io_error;
+ghost use Rattle.cli_recode.specs.declared.error.InputError.TheVariants as input;
 ghost use Rattle.cli_recode.specs.declared.error.ProfileLoadError.TheVariants as load;
 ghost use Rattle.cli_recode.specs.declared.error.RecodeError.TheVariants as recode;
 
@@ -14,6 +16,7 @@ use iso_dialect::WriteError;
 use std::alloc::{AllocError, AllocFailed};
 use std::str::Utf8Error;
 use std::{fmt, io};
+use sw_participant::Text;
 use thiserror::Error;
 
 /// Why a message is not recoded.
@@ -132,5 +135,68 @@ impl From<ProfileFileError> for ProfileLoadError {
             ProfileFileError::OutOfMemory => ProfileLoadError::Io(IoError::OutOfMemory),
             other => ProfileLoadError::Profile(other),
         }
+    }
+}
+
+/// What is refused where an input is not all recoded.
+#[derive(Error)]
+pub enum InputRefusal {
+    /// The profile file at the path is not taken, and nothing is written.
+    #[error("{}: {cause}", .path.as_str())]
+    Profile { path: Text, cause: ProfileLoadError },
+    /// A message or a frame of the input, as was reported. What can be recoded is written.
+    #[error("standard input: a message or a frame is refused (see the lines before); expected frames of \
+        messages that can be recoded")]
+    Messages,
+}
+
+// Written out, so that no caller proves again how its parts are dropped.
+impl Drop for InputRefusal {
+    fn drop(self) {
+        match self {
+            InputRefusal::Profile { path: _, cause: _ } => {}
+            InputRefusal::Messages => {}
+        }
+    }
+}
+
+// A person is shown the same text.
+impl fmt::Debug for InputRefusal {
+    fn fmt<W: fmt::Write>(&self, f: &mut fmt::Formatter<W>) -> fmt::Result {
+        fmt::Display::fmt(self, f)
+    }
+}
+
+/// Why an input is not all recoded.
+#[derive(Drop, Error)]
+pub enum InputError {
+    /// The input could not be read to its end, the output could not be written, or no memory was left.
+    #[error("{0}")]
+    Io(IoError),
+    /// The profile file or something of the input is refused.
+    #[error("{0}")]
+    Refused(InputRefusal),
+}
+
+// A person is shown the same text.
+impl fmt::Debug for InputError {
+    fn fmt<W: fmt::Write>(&self, f: &mut fmt::Formatter<W>) -> fmt::Result {
+        fmt::Display::fmt(self, f)
+    }
+}
+
+impl From<IoError> for InputError {
+    ghost from_gives = { λ e f. f ≡ input.Io e };
+
+    fn from(error: IoError) -> InputError {
+        InputError::Io(error)
+    }
+}
+
+impl From<AllocError> for InputError {
+    ghost from_gives = { λ _ f. f ≡ input.Io io_error.OutOfMemory };
+
+    fn from(_error: AllocError) -> InputError {
+        InputError::Io(IoError::OutOfMemory)
     }
 }

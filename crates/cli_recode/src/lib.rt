@@ -1,9 +1,10 @@
 //! `recode`: frames of messages as another system writes them, turned into the switch's own, and back.
 //!
-//! [`recode_stream`] reads frames from an input and writes those of the recoded messages, piece by piece.
-//! [`profile_at`] reads the profile file that says how the other system writes. A [`Recoder`] recodes a stream
-//! for a caller that reads and writes by itself, as the crate `run_recode` does: there a header may stand before
-//! each message, and something else may be written for one that is not recoded (`Recoding`).
+//! [`recode`] does so with an input, by the profile file at a path. [`recode_stream`] reads frames from an
+//! input and writes those of the recoded messages, piece by piece. [`profile_at`] reads the profile file
+//! that says how the other system writes. A [`Recoder`] recodes a stream for a caller that reads and writes
+//! by itself, as the crate `run_recode` does: there a header may stand before each message, and something
+//! else may be written for one that is not recoded (`Recoding`).
 //!
 //! # What is proved
 //!
@@ -19,7 +20,9 @@
 //! (`own_frames_are_the_switchs`).
 //!
 //! Of a file's bytes that are known `profile_at` gives exactly the profile that they state, or a fault
-//! that they have (`profile_opened`). What the reports say is only tested.
+//! that they have (`profile_opened`). Of a file at a path no contract knows the bytes: the profile is one
+//! that some bytes state (`IsOfAFile`). `recode` writes nothing if it takes no profile (`IsInputRefusal`).
+//! What the reports say is only tested.
 //!
 //! # Decisions
 //!
@@ -32,6 +35,7 @@
 //!   acquirer is not known here.
 #![tactic(auto)]
 
+mod by_file;
 mod error;
 mod instead;
 mod laws;
@@ -40,7 +44,8 @@ mod profile;
 mod recoder;
 mod stream;
 
-pub use error::{ProfileLoadError, RecodeError};
+pub use by_file::{ByFile, recode};
+pub use error::{InputError, InputRefusal, ProfileLoadError, RecodeError};
 pub use laws::own_frames_are_the_switchs;
 pub use message::{Instead, Recoding, Way, own_form, recode_message};
 pub use profile::{TwoProfiles, profile_at, two_profiles_at};

@@ -1,8 +1,9 @@
 //! The profile file that an option names.
 
 ghost use Rattle.std.specs.Prelude.{◌≡◌, IfErr, IfOk};
+ghost use Rattle.iso_dialect.specs.declared.profile.Peer.TheVariants.{Acquirer};
 ghost use Rattle.dialect_toml.specs.ProfileFile.{IsProfileFile};
-ghost use Rattle.cli_recode.specs.Profiles.{RefusesBytes, RefusesProfile, StatesProfile};
+ghost use Rattle.cli_recode.specs.Profiles.{IsOfAFile, RefusesBytes, RefusesProfile, StatesProfile};
 
 use crate::error::ProfileLoadError;
 use cli_io::{Input, read_input};
@@ -34,6 +35,7 @@ fn profile_from<R: Read + Drop>(
     input: R,
     peer: Peer,
 ) -> Result<TwoProfiles, ProfileLoadError>
+    ensures of_a_file { IfOk result (λ f. IsOfAFile peer f.from) }
     ensures from { IfOk result (λ f. StatesProfile peer (R.remaining input) f.from) }
     ensures to { IfOk result (λ f. StatesProfile peer (R.remaining input) f.to) }
     ensures refused { IfErr result (RefusesProfile peer (R.remaining input)) }
@@ -51,6 +53,7 @@ fn profile_opened<R: Read + Drop>(
     opened: io::Result<R>,
     peer: Peer,
 ) -> Result<TwoProfiles, ProfileLoadError>
+    ensures of_a_file { IfOk result (λ f. IsOfAFile peer f.from) }
     ensures from { IfOk opened (λ input.
         IfOk result (λ f. StatesProfile peer (R.remaining input) f.from)) }
     ensures to { IfOk opened (λ input.
@@ -72,7 +75,9 @@ pub fn two_profiles_at<F: Files>(
     files: &F,
     path: &str,
     peer: Peer,
-) -> Result<TwoProfiles, ProfileLoadError> {
+) -> Result<TwoProfiles, ProfileLoadError>
+    ensures of_a_file { IfOk result (λ f. IsOfAFile peer f.from) }
+{
     profile_opened(alloc, File::open(files, path), peer)
 }
 
@@ -81,7 +86,9 @@ pub fn profile_at<F: Files>(
     alloc: Global,
     files: &F,
     path: &str,
-) -> Result<ProfileFile, ProfileLoadError> {
+) -> Result<ProfileFile, ProfileLoadError>
+    ensures of_a_file { IfOk result (λ f. IsOfAFile Acquirer f) }
+{
     match two_profiles_at(alloc, files, path, Peer::Acquirer) {
         Ok(TwoProfiles { from, to: _ }) => Ok(from),
         Err(error) => Err(error),

@@ -18,7 +18,7 @@
 //!
 //! A class is a class name of jPOS: it says how a value is written (`kind_of` of
 //! `specs/Shapes.antt`), and how many are counted before it (`lead_of`). [`Key`] says what values
-//! each key may have. No program uses this crate yet.
+//! each key may have.
 //!
 //! Promised here: [`read_profile`] returns exactly the profile that a text states, or its first
 //! fault, with its key and its table. The faults come in this order:

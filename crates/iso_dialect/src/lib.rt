@@ -4,7 +4,7 @@
 //! packed two a byte, characters in EBCDIC, bitmaps of eight bytes, lengths in binary. A `Profile`
 //! says how it writes the type, the bitmaps and each field (`Row`). `to_ascii` gives the bytes of the
 //! ASCII profile (`iso_codec`) for its bytes, and `from_ascii` its bytes for those of the ASCII profile.
-//! No program uses this crate yet.
+//! `cli_recode` turns whole streams of them.
 //!
 //! - `Profile::check` makes a profile of a `Draft`, or refuses it with the first of its faults.
 //! - `to_ascii` gives the one spelling, in the ASCII profile, of the message that the bytes spell.
