@@ -13,7 +13,7 @@ use dialect_frame::FrameError;
 use dialect_toml::ProfileFileError;
 use iso_codec::DecodeError;
 use iso_dialect::WriteError;
-use std::alloc::{AllocError, AllocFailed};
+use std::alloc::AllocError;
 use std::str::Utf8Error;
 use std::{fmt, io};
 use sw_participant::Text;
