@@ -156,8 +156,14 @@ def wire_of(host):
     """How a host is reached."""
     if "simulated" in host:
         return "simulated" if host["simulated"] is True else "silent"
-    wire = {key: host[key] for key in ("to", "from")}
+    wire = {key: host[key] for key in ("to", "from")} | {"profile": host.get("profile")}
     return wire | {key: host.get(key, default) for key, default in NUMBERS.items()}
+
+
+def profiles_of(document):
+    """The paths of the profile files that a document without a fault names, in the order in which they are read."""
+    named = [document.get("run", {}).get("profile"), *(host.get("profile") for host in document.get("host", []))]
+    return [path for path in named if path is not None]
 
 
 def stated(document):

@@ -1,5 +1,6 @@
 """Random configuration files, right ones and slightly spoilt ones, and what `run` does with them when no request comes."""
 
+import os
 from copy import deepcopy
 
 from harness.case import Begins, Case, Exactly
@@ -10,8 +11,15 @@ FLOW = b'[[group]]\nname = "main"\nentry = [{ participant = "check" }, { partici
 # The rules that it breaks, with the routes of this file.
 ALLOWED = ["no-query", "unknown-group", "picks-main"]
 ODD = ["", "a b", "é", "x" * 33, "0" * 20, "12", -1, 0, 17, 2**62, True, False, 1.5, [], [1], {}, {"a": 1}]
+# A profile file that is there.
+PROFILE = "iso87ascii.toml"
 NAMES = ["alpha", "beta", "host-1", "a.b_c", "x" * 26]
 PREFIXES = ["4", "5", "55", "6011", "9" * 19]
+
+
+def profile_file():
+    with open(os.path.join(os.path.dirname(__file__), "..", "..", "examples", "profiles", PROFILE), "rb") as file:
+        return file.read()
 
 
 def some(random, table):
@@ -30,6 +38,7 @@ def host(random):
         "retry_ms": random.choice([0, 5000, 3_600_000]),
         "echo_s": random.choice([0, 30, 86_400]),
         "in_flight": random.choice([1, 4, 16]),
+        "profile": PROFILE,
     }
     return made | {"to": "none.to", "from": "none.from"} | some(random, numbers)
 
@@ -42,6 +51,7 @@ def run(random):
     return {
         "advices": random.choice([0, 1, 256]),
         "header": random.choice([0, 24, 64]),
+        "profile": PROFILE,
         "sessions": random.randint(1, 16),
         "threads": random.random() < 0.5,
         "unordered": random.random() < 0.5,
@@ -82,7 +92,7 @@ def spoil(random, made):
     elif way == "odd" and keys:
         table[random.choice(keys)] = one_of(random, ODD)
     elif way == "known":
-        known = ["simulated", "to", "name", "retry_ms", "echo_s", "in_flight", "prefix", "sessions", "advices", "host"]
+        known = ["simulated", "to", "name", "retry_ms", "echo_s", "in_flight", "profile", "prefix", "sessions", "advices", "host"]
         table[random.choice(known)] = one_of(random, [*ODD, *NAMES])
     else:
         table[random.choice(["color", "Name", "zz", "a b"])] = one_of(random, ODD)
@@ -132,7 +142,7 @@ def config_case(random, name):
     if random.random() < 0.05:
         text = text.replace("=", random.choice(["", "= ="]), 1)
     case = Case(name, "cardswitch run --flow flow.toml --config config.toml < none")
-    case.files = {"flow.toml": FLOW, "config.toml": text.encode(), "none": b""}
+    case.files = {"flow.toml": FLOW, "config.toml": text.encode(), "none": b"", PROFILE: profile_file()}
     case.stdout, case.stderr = Exactly(b""), Exactly(b"")
     reads = config.read(text)
     if isinstance(reads, str):
@@ -140,6 +150,10 @@ def config_case(random, name):
         case.stderr, case.status = begins(f"cardswitch: config.toml: {reads}".encode() + b"\n" * (begins is Exactly)), 1
         return case
     stated = flows.document_of(text.encode())
+    lost = next((path for path in config.profiles_of(stated) if path not in case.files), None)
+    if lost is not None:
+        case.stderr, case.status = Exactly(f"cardswitch: {lost}: cannot open: No such file or directory (os error 2)\n".encode()), 1
+        return case
     its = rules.SetUp(flows.read_flow(FLOW), stated)
     lines = its.lines()
     case.stderr = Exactly("".join(lines or [its.ready(stated.get("run", {}).get("sessions", 1))]).encode())

@@ -1,6 +1,6 @@
 -- What `run` and `recover` have done, from their parts.
 -- for: requests::answer_by, requests::answer_requests, requests::recover_by, requests::recover
-use Rattle.std.proofs.Common.{◌≡◌, ◌≢◌, ◌≤◌, ℕ, List, Option, Some, None, Result, Ok, Err, IfErr, IfNone, IfOk, IfSome, OnOk, Bor, ap, arith, refl, sym, subst, ◌∙◌, false, true}
+use Rattle.std.proofs.Common.{◌≡◌, ◌≢◌, ◌≤◌, ℕ, List, Option, Some, None, Result, Ok, Err, IfErr, IfNone, IfOk, IfSome, OnOk, Bor, ap, arith, inl, inr, refl, sym, subst, ◌∙◌, false, true}
 use Rattle.sqlite_trees.specs.declared.store.Store.{Ghosts}
 use Rattle.sqlite_trees.specs.declared.memory.MemStore.{MemStore}
 use Rattle.sqlite.specs.Steps.{over_memory}
@@ -23,6 +23,8 @@ use Rattle.run_setup.specs.Plans.{IsSetUp, journal_of, limit_of, log_path_of, no
 use Rattle.sw_book.specs.Most.{max_limit}
 use Rattle.cardswitch.specs.Errors.{error_at}
 use Rattle.cardswitch.specs.Journals.{IsFound, IsNewJournal, IsOfFile}
+use Rattle.run_recode.specs.Flows.{known_without}
+use Rattle.cardswitch.specs.Runs.{AnsweredOver, IsAcquirerFault, IsRunFaultOver, IsSeen}
 use Rattle.cardswitch.specs.Runs.{Answered, AnsweredBy, IfTaken, IsConfigAt, IsConfigFault, IsFileFault, IsFlowFault, IsLogFault, IsOpenFault, IsRecoverFault, IsRunFault}
 use Rattle.cardswitch.specs.Runs.{IsRunFaultBy, IsServeError, IsServeFault, Recovered, Served, ended_at, sender_of_setup}
 use Rattle.cardswitch.specs.SetUps.{TakesSetUp}
@@ -103,13 +105,38 @@ pub answered_requests : {S : Type 0} (files : Ghosts S) (code : Result Flow RunE
     (unread before after : Option (List ℕ)) (r : Result (Unit {0}) RunError)
     → IfOk code (λ f. IsChecked f) → IfOk config (IsConfigAt o.config)
     → IfErr code (λ e. (r ≡ Err e) × (after ≡ before)) → IfOk code (λ f. IfErr config (λ e. (r ≡ Err e) × (after ≡ before)))
-    → IfTaken code config (λ f c. OnOk r (AnsweredBy files f o c unread before after))
+    → IfTaken code config (λ f c. OnOk r (AnsweredOver files f o c unread before after))
     → OnOk r ((f : Flow) × IsChecked f × Answered files f o unread before after)
 answered_requests files code config o unread before after r checked stated refuses denies h =
-    on_ok ((f : Flow) × IsChecked f × (c : Config) × IsConfigAt o.config c × AnsweredBy files f o c unread before after) _ r
+    on_ok ((f : Flow) × IsChecked f × (c : Config) × IsConfigAt o.config c × AnsweredOver files f o c unread before after) _ r
     (λ all. (all.0, all.1, record { config = all.2; stated = all.3; answered = all.4 }))
-    (both (λ f. IsChecked f) (IsConfigAt o.config) (λ f c. AnsweredBy files f o c unread before after) (after ≡ before) code config r checked stated refuses
+    (both (λ f. IsChecked f) (IsConfigAt o.config) (λ f c. AnsweredOver files f o c unread before after) (after ≡ before) code config r checked stated refuses
     denies h)
+
+-- the same of what the streams are read and written through
+pub answered_through : {S : Type 0} (files : Ghosts S) (flow : Flow) (o : RunOptions) (c : Config) (u b a requests earlier responses : Option (List ℕ))
+    (r : Result (Unit {0}) RunError) → IfNone c.run.profile ((requests ≡ u) × (earlier ≡ b)) → IsSeen responses a
+    → OnOk r (AnsweredBy files flow o c requests earlier responses) → OnOk r (AnsweredOver files flow o c u b a)
+answered_through files flow o c u b a requests earlier responses r same seen h =
+    on_ok _ _ r (λ (x : AnsweredBy files flow o c requests earlier responses). record {
+      requests = requests;
+      earlier = earlier;
+      responses = responses;
+      plain = same;
+      seen = seen;
+      answered = x;
+    }) h
+
+pub refused_through : (o : RunOptions) (c : Config) (b a earlier later : Option (List ℕ)) (r : Result (Unit {0}) RunError)
+    → IfNone c.run.profile (earlier ≡ b) → IsSeen later a → IfErr r (IsRunFaultBy o c earlier later) → IfErr r (IsRunFaultOver o c b a)
+refused_through o c b a earlier later (Ok done) same seen h = tt
+refused_through o c b a earlier later (Err e) same seen h = inr (earlier, later, same, seen, h)
+
+-- what a writer that recodes shows is what the one inside has, if it shows anything
+pub seen_without : {X : Type 0} (side : Option X) (inside : Option (List ℕ)) → IsSeen (known_without side inside) inside
+seen_without None None = tt
+seen_without None (Some bytes) = refl
+seen_without (Some x) inside = tt
 
 -- without a file nothing is stated
 none_stated : (path : Option (Bor (List ℕ))) → IsConfigAt path no_config
@@ -124,6 +151,7 @@ flow_cases P path error.OutOfMemory file memory fault = memory
 flow_cases P path (error.ConfigFile p cause) file memory fault = absurd fault
 flow_cases P path (error.SetUp e) file memory fault = absurd fault
 flow_cases P path (error.LogFile p cause) file memory fault = absurd fault
+flow_cases P path (error.ProfileFile p cause) file memory fault = absurd fault
 flow_cases P path (error.Serve e) file memory fault = absurd fault
 flow_cases P path (error.BadLimit n) file memory fault = absurd fault
 flow_cases P path (error.JournalFile p cause) file memory fault = absurd fault
@@ -145,6 +173,7 @@ config_cases P path error.OutOfMemory file memory fault = memory
 config_cases P path (error.FlowFile p cause) file memory fault = absurd fault
 config_cases P path (error.SetUp e) file memory fault = absurd fault
 config_cases P path (error.LogFile p cause) file memory fault = absurd fault
+config_cases P path (error.ProfileFile p cause) file memory fault = absurd fault
 config_cases P path (error.Serve e) file memory fault = absurd fault
 config_cases P path (error.BadLimit n) file memory fault = absurd fault
 config_cases P path (error.JournalFile p cause) file memory fault = absurd fault
@@ -160,13 +189,13 @@ config_cases P path (error.Text e) file memory fault = absurd fault
 
 flow_refused : (o : RunOptions) (before after : Option (List ℕ)) (e : RunError) → IsFlowFault o.flow.now e → after ≡ before → IsRunFault o before after e
 flow_refused o before after e fault same =
-    flow_cases (IsRunFault o before after) o.flow.now e (λ p cause is. (is, same)) (no_config, none_stated o.config, λ over. same) fault
+    flow_cases (IsRunFault o before after) o.flow.now e (λ p cause is. (is, same)) (no_config, none_stated o.config, inl same) fault
 
 config_refused : (o : RunOptions) (before after : Option (List ℕ)) (e : RunError) → IsConfigFault o.config e → after ≡ before → IsRunFault o before after e
 config_refused o before after e fault same =
-    config_cases (IsRunFault o before after) o.config e (λ p cause is. (is, same)) (no_config, none_stated o.config, λ over. same) fault
+    config_cases (IsRunFault o before after) o.config e (λ p cause is. (is, same)) (no_config, none_stated o.config, inl same) fault
 
-run_refused : (o : RunOptions) (c : Config) (before after : Option (List ℕ)) (e : RunError) → IsConfigAt o.config c → IsRunFaultBy o c before after e →
+run_refused : (o : RunOptions) (c : Config) (before after : Option (List ℕ)) (e : RunError) → IsConfigAt o.config c → IsRunFaultOver o c before after e →
     IsRunFault o before after e
 run_refused o c before after error.OutOfMemory stated fault = (c, stated, fault)
 run_refused o c before after (error.BadLimit n) stated fault = (c, stated, fault)
@@ -174,17 +203,18 @@ run_refused o c before after (error.JournalFile path cause) stated fault = (c, s
 run_refused o c before after (error.Journal path cause) stated fault = (c, stated, fault)
 run_refused o c before after (error.Engine path cause) stated fault = (c, stated, fault)
 run_refused o c before after (error.Serve e) stated fault = (c, stated, fault)
-run_refused o c before after (error.FlowFile path cause) stated fault = absurd fault
-run_refused o c before after (error.ConfigFile path cause) stated fault = absurd fault
+run_refused o c before after (error.FlowFile path cause) stated fault = elim fault [ inl x ↦ absurd x | inr x ↦ absurd x.4 ]
+run_refused o c before after (error.ConfigFile path cause) stated fault = elim fault [ inl x ↦ absurd x | inr x ↦ absurd x.4 ]
+run_refused o c before after (error.ProfileFile path cause) stated fault = (c, stated, fault)
 run_refused o c before after (error.SetUp e) stated fault = (c, stated, fault)
 run_refused o c before after (error.LogFile p cause) stated fault = (c, stated, fault)
-run_refused o c before after error.Refused stated fault = absurd fault
-run_refused o c before after (error.Recode e) stated fault = absurd fault
-run_refused o c before after (error.Read e) stated fault = absurd fault
-run_refused o c before after (error.Write e) stated fault = absurd fault
-run_refused o c before after (error.Step e) stated fault = absurd fault
-run_refused o c before after (error.Input e) stated fault = absurd fault
-run_refused o c before after (error.Text e) stated fault = absurd fault
+run_refused o c before after error.Refused stated fault = (c, stated, fault)
+run_refused o c before after (error.Recode e) stated fault = (c, stated, fault)
+run_refused o c before after (error.Read e) stated fault = (c, stated, fault)
+run_refused o c before after (error.Write e) stated fault = (c, stated, fault)
+run_refused o c before after (error.Step e) stated fault = (c, stated, fault)
+run_refused o c before after (error.Input e) stated fault = (c, stated, fault)
+run_refused o c before after (error.Text e) stated fault = (c, stated, fault)
 
 same_error : (e f : RunError) → ◌≡◌ {A = Result (Unit {0}) RunError} (Err e) (Err f) → f ≡ e
 same_error e f same = cc
@@ -194,7 +224,7 @@ pub refused : (code : Result Flow RunError) (config : Result Config RunError) (o
     (r : Result (Unit {0}) RunError)
     → IfErr code (IsFlowFault o.flow.now) → IfErr config (IsConfigFault o.config) → IfOk config (IsConfigAt o.config)
     → IfErr code (λ e. (r ≡ Err e) × (after ≡ before)) → IfOk code (λ f. IfErr config (λ e. (r ≡ Err e) × (after ≡ before)))
-    → IfTaken code config (λ f c. IfErr r (IsRunFaultBy o c before after))
+    → IfTaken code config (λ f c. IfErr r (IsRunFaultOver o c before after))
     → IfErr r (IsRunFault o before after)
 refused code config o before after (Ok done) flow_fault config_fault stated refuses denies h = tt
 refused (Err f) config o before after (Err e) flow_fault config_fault stated refuses denies h =
@@ -231,6 +261,7 @@ served_fault o c before after (error.FlowFile path cause) limit none h = absurd 
 served_fault o c before after (error.ConfigFile path cause) limit none h = absurd h
 served_fault o c before after (error.SetUp e) limit none h = absurd h
 served_fault o c before after (error.LogFile p cause) limit none h = absurd h
+served_fault o c before after (error.ProfileFile p cause) limit none h = absurd h
 served_fault o c before after (error.BadLimit n) limit none h = absurd h
 served_fault o c before after (error.JournalFile path cause) limit none h = absurd h
 served_fault o c before after (error.Journal path cause) limit none h = absurd h
@@ -277,6 +308,7 @@ fault_in_file path before after (error.FlowFile p cause) h = absurd h
 fault_in_file path before after (error.ConfigFile p cause) h = absurd h
 fault_in_file path before after (error.SetUp e) h = absurd h
 fault_in_file path before after (error.LogFile p cause) h = absurd h
+fault_in_file path before after (error.ProfileFile p cause) h = absurd h
 fault_in_file path before after (error.BadLimit n) h = absurd h
 fault_in_file path before after (error.JournalFile p cause) h = absurd h
 fault_in_file path before after (error.Journal p cause) h = absurd h
@@ -304,6 +336,7 @@ file_fault o c path before after (error.FlowFile p cause) limit named h = absurd
 file_fault o c path before after (error.ConfigFile p cause) limit named h = absurd h
 file_fault o c path before after (error.SetUp e) limit named h = absurd h
 file_fault o c path before after (error.LogFile p cause) limit named h = absurd h
+file_fault o c path before after (error.ProfileFile p cause) limit named h = absurd h
 file_fault o c path before after (error.BadLimit n) limit named h = absurd h
 file_fault o c path before after error.Refused limit named h = absurd h
 file_fault o c path before after (error.Recode e) limit named h = absurd h
@@ -331,6 +364,7 @@ open_fault path before (error.FlowFile p cause) h = absurd h
 open_fault path before (error.ConfigFile p cause) h = absurd h
 open_fault path before (error.SetUp e) h = absurd h
 open_fault path before (error.LogFile p cause) h = absurd h
+open_fault path before (error.ProfileFile p cause) h = absurd h
 open_fault path before (error.BadLimit n) h = absurd h
 open_fault path before error.Refused h = absurd h
 open_fault path before (error.Recode e) h = absurd h
@@ -350,6 +384,7 @@ pub unlogged : (o : RunOptions) (c : Config) (path : Option (List ℕ)) (before 
     → path ≡ log_path_of o c → IfSome path (λ p. IsLogFault p e) → IfNone path (false ≡ true) → IsRunFaultBy o c before before e
 unlogged o c None before e limit is fault there = absurd (cc)
 unlogged o c (Some path) before (error.LogFile p cause) limit is fault there = (limit, sym is ∙ ap Some (sym fault), refl)
+unlogged o c (Some path) before (error.ProfileFile p cause) limit is fault there = absurd fault
 unlogged o c (Some path) before error.OutOfMemory limit is fault there = λ over. refl
 unlogged o c (Some path) before (error.FlowFile p cause) limit is fault there = absurd fault
 unlogged o c (Some path) before (error.ConfigFile p cause) limit is fault there = absurd fault
@@ -378,6 +413,7 @@ recover_fault o before after (error.FlowFile p cause) h = absurd h
 recover_fault o before after (error.ConfigFile p cause) h = absurd h
 recover_fault o before after (error.SetUp e) h = absurd h
 recover_fault o before after (error.LogFile p cause) h = absurd h
+recover_fault o before after (error.ProfileFile p cause) h = absurd h
 recover_fault o before after (error.BadLimit n) h = absurd h
 recover_fault o before after error.Refused h = absurd h
 recover_fault o before after (error.Recode e) h = absurd h

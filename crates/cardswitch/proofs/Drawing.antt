@@ -23,6 +23,7 @@ no_flow form path before (error.BadLimit n) h = absurd h
 no_flow form path before (error.ConfigFile p cause) h = absurd h
 no_flow form path before (error.SetUp e) h = absurd h
 no_flow form path before (error.LogFile p cause) h = absurd h
+no_flow form path before (error.ProfileFile p cause) h = absurd h
 no_flow form path before (error.JournalFile p cause) h = absurd h
 no_flow form path before (error.Journal p cause) h = absurd h
 no_flow form path before (error.Engine p cause) h = absurd h

@@ -41,6 +41,7 @@ not_found o before (error.BadLimit n) h = absurd h
 not_found o before (error.ConfigFile p cause) h = absurd h
 not_found o before (error.SetUp e) h = absurd h
 not_found o before (error.LogFile p cause) h = absurd h
+not_found o before (error.ProfileFile p cause) h = absurd h
 not_found o before error.Refused h = absurd h
 not_found o before (error.Recode e) h = absurd h
 not_found o before (error.Read e) h = absurd h

@@ -6,6 +6,9 @@ use Rattle.cli_config.specs.declared.config.Config.{Config}
 use Rattle.cli_config.specs.declared.config.Host.{Host}
 use Rattle.run_setup.specs.Links.{AddsLink, AreLinksOf, host_link, host_query}
 use Rattle.run_setup.specs.Plans.{links_of, queries_of}
+use Rattle.run_setup.specs.Profiles.{IsHostsFault, IsProfileFault, wire_profile}
+use Rattle.run_setup.specs.declared.error.SetupError.{SetupError}
+use Rattle.run_setup.specs.declared.error.SetupError.TheVariants.{BadLimit, OutOfMemory, Profile}
 use Rattle.run_setup.specs.declared.links.Links.{Links}
 
 next : {A : Type 0} (shown : Host → A) (hosts : List Host) (i : ℕ) (h : Host) → i < length hosts → h ≡ get_or hosts i h
@@ -25,3 +28,11 @@ pub links_of_all : (c : Config) (stated hosts : List Host) (i : ℕ) (links : Li
     → AreLinksOf (map host_query (take i hosts)) (map host_link (take i hosts)) links → AreLinksOf (queries_of c) (links_of c) links
 links_of_all c stated hosts i links is same all so_far =
     rw (is, sym same, sym (take_all i hosts all)) so_far
+
+-- a host whose profile file is not taken
+pub host_refused : (c : Config) (stated hosts : List Host) (i : ℕ) (h : Host) (e : SetupError) → c.hosts ≡ Some stated → hosts ≡ stated → i < length hosts
+    → h ≡ get_or hosts i h → IsProfileFault (wire_profile h.wire) e → IsHostsFault c e
+host_refused c stated hosts i h (Profile p cause) is same lt at fault =
+    (hosts, is ∙ ap (λ (x : List Host). Some x) (sym same), record { index = i; host = h; within = lt; at = at; profile = fault })
+host_refused c stated hosts i h OutOfMemory is same lt at fault = tt
+host_refused c stated hosts i h (BadLimit n) is same lt at fault = absurd fault
