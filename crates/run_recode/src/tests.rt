@@ -91,7 +91,7 @@ impl Write for Narrow {
     }
 
     fn flush(&mut self) -> io::Result<()> {
-        self.flushes += 1;
+        self.flushes = self.flushes.saturating_add(1);
         Ok(())
     }
 }
@@ -252,7 +252,7 @@ fn written(
     let mut told: Vec<u8> = Vec::new(alloc);
     let recoding: Arc<Recoding> = Arc::new(alloc, plan.recoding)?;
     let mut writer = RecodedWriter::new(alloc, recoding, &mut inner, &mut told);
-    for piece in bytes.chunks(each) {
+    for piece in bytes.chunks(each.max(1)) {
         if writer.write_all(piece).is_err() {
             writer.write_all(piece)?;
         }
