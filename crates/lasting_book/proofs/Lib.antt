@@ -2,3 +2,4 @@ mod Sorting
 mod Lines
 mod Reaching
 mod Ties
+mod LastItems

@@ -1,8 +1,8 @@
 -- The lines of the items in memory, after an item was put, changed or taken out.
 -- for: book::LastingBook
-use Rattle.std.proofs.Common.{◌≡◌, ◌<ℤ◌, ℕ, ℤ, pos, ◌<◌, ◌≤◌, List, [], ◌∷◌, Bool, true, false, ◌&&◌, not, cond, Option, Some, None, unwrap_or, refl, sym, ap, subst, ◌∙◌, arith}
-use Rattle.std.proofs.Common.{if◌then◌else◌, nat_le, true≢false}
-use Rattle.std.specs.List.{AllByRecursion, list_any}
+use Rattle.std.proofs.Common.{◌≡◌, ◌<ℤ◌, ℕ, ℤ, pos, ◌<◌, List, [], ◌∷◌, Bool, true, false, ◌&&◌, not, cond, Some, None, unwrap_or, refl, sym, ap, subst, ◌∙◌, arith}
+use Rattle.std.proofs.Common.{nat_le}
+use Rattle.std.specs.List.{AllByRecursion}
 use Rattle.std.specs.List.Sorted.{IsStrictlySortedBy}
 use Rattle.std.specs.Map.{keys_of}
 use Rattle.std.specs.Ordering.{nat_cmp, is_eq, match_ordering}
@@ -15,9 +15,9 @@ use Rattle.day_book.specs.declared.item.DayItem.{DayItem}
 use Rattle.day_book.specs.declared.item.State.TheVariants.{Reversed}
 use Rattle.day_book.specs.Items.{Items, item_at, is_open}
 use Rattle.day_book.specs.Changes.{with_item, in_its_place, without, in_state}
-use Rattle.book_store.specs.Lines.{Line, has_id, marked, with_line}
+use Rattle.book_store.specs.Lines.{Line, marked, with_line}
 use Rattle.lasting_book.specs.Tied.{lines_in, line_at, is_kept}
-use Rattle.lasting_book.proofs.Sorting.{Above, put_first, put_behind, mark_none, mark_behind, mark_here, none_above}
+use Rattle.lasting_book.proofs.Sorting.{Above, put_first, put_behind, mark_none, mark_behind, mark_here}
 
 -- ids in order, as numbers of lines
 less : (a b : ℕ) → nat_cmp a b ≡ Less → pos a <ℤ pos b

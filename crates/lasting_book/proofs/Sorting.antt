@@ -1,6 +1,6 @@
 -- A line put among lines that rise by id.
 -- for: book::LastingBook::settle, restore
-use Rattle.std.proofs.Common.{◌≡◌, ◌<ℤ◌, ℤ, pos, List, [], ◌∷◌, ◌++◌, Bool, true, false, ◌||◌, cond, filter, if◌then◌else◌, int_eq, int_lt, refl, sym, ap, ◌∙◌, arith}
+use Rattle.std.proofs.Common.{◌≡◌, ◌<ℤ◌, ℤ, pos, List, [], ◌∷◌, ◌++◌, Bool, true, false, ◌||◌, cond, filter, if◌then◌else◌, int_eq, int_lt, refl, ap, ◌∙◌, arith}
 use Rattle.std.specs.List.{AllByRecursion, list_any}
 use Rattle.std.proofs.lemmas.Int.{ints}
 use Rattle.book_store.specs.Lines.{Line, has_id, marked, with_line}

@@ -1,7 +1,7 @@
 -- Memory and file agree after a change of one or of both.
 -- for: book::LastingBook
-use Rattle.std.proofs.Common.{◌≡◌, ◌<◌, ◌≤◌, ℕ, pos, Bool, true, false, not, ◌&&◌, ◌||◌, nat_lt, nat_le, if◌then◌else◌, List, [], ◌∷◌, Option, Some, None}
-use Rattle.std.proofs.Common.{Result, Ok, Err, IsOk, OnOk, OnErr, IsTrue, is_some, refl, ap, sym, subst, ◌∙◌, arith}
+use Rattle.std.proofs.Common.{◌≡◌, ◌<◌, ◌≤◌, ℕ, ℤ, pos, Bool, true, false, not, ◌&&◌, ◌||◌, nat_lt, nat_le, if◌then◌else◌, List, [], ◌∷◌, Option, Some, None}
+use Rattle.std.proofs.Common.{Result, Ok, Err, OnOk, OnErr, IsTrue, is_some, refl, ap, sym, ◌∙◌, arith}
 use Rattle.std.specs.List.{list_any}
 use Rattle.std.specs.List.Sorted.{IsStrictlySortedBy}
 use Rattle.std.specs.Map.{keys_of}
@@ -10,6 +10,7 @@ use Rattle.std.proofs.lemmas.Bool.Decides.{nat_tests}
 use Rattle.sw_base.specs.Refusals.{first_of, refused_if}
 use Rattle.sqlite_trees.specs.declared.store.Store.{Ghosts}
 use Rattle.book_store.specs.Kept.{BookState, IsCleanBook, Kept, Tables, book}
+use Rattle.book_store.specs.Changes.{forgotten as forgotten_lines}
 use Rattle.book_store.specs.Lines.{Line, has_id, marked, with_line}
 use Rattle.day_book.specs.declared.error.DayBookError.{DayBookError}
 use Rattle.day_book.specs.declared.item.DayItem.{DayItem}
@@ -21,7 +22,7 @@ use Rattle.day_book.specs.declared.error.DayBookError.TheVariants.{AmountTooLarg
 use Rattle.lasting_book.specs.Files.{IsChanged, IsKeptOrFailed}
 use Rattle.lasting_book.specs.Tied.{Tied, in_reach, is_kept, line_at, lines_in}
 use Rattle.lasting_book.proofs.Lines.{kept_new, kept_set, marked_set, past_out, unkept_new, unkept_out, unkept_set}
-use Rattle.lasting_book.proofs.Reaching.{day_late, lines_more, reach_marked, reach_more, reach_put}
+use Rattle.lasting_book.proofs.Reaching.{line_reaches, lines_more, reach_forgotten, reach_marked, reach_more, reach_put}
 
 -- memory changed, but no line in reach
 pub tied_items : (b : Bool) (f : BookState) (reach : ℕ) (es es' : Items) → Tied b f reach es → lines_in reach es' ≡ lines_in reach es → Tied b f reach es'
@@ -37,6 +38,15 @@ module _ {S : Type 0} (g : Ghosts S) (old new : Kept S) (b : Bool) (reach : ℕ)
   pub tied_kept : IsKeptOrFailed g old new → Tied b (book g new) reach es
   tied_kept kept sound fine clean =
       ap (λ (t : Tables). in_reach reach t.lines) (kept.same clean fine) ∙ tied sound (kept.fine fine) (omega (arith, kept.clean, clean))
+
+-- lines out of reach were forgotten in the file, or it has failed
+pub tied_lines : {S : Type 0} (g : Ghosts S) (old new : Kept S) (b : Bool) (reach : ℕ) (es : Items) {A E : Type 0} (r : Result A E) (most : ℤ)
+    → Tied b (book g old) reach es → OnOk r (IsChanged g (forgotten_lines (pos reach) most) old new) → OnErr r (IsKeptOrFailed g old new)
+    → Tied b (book g new) reach es
+tied_lines g old new b reach es (Ok a) most tied changed kept =
+    tied_changed g old new b reach es tied (forgotten_lines (pos reach) most) es changed
+    (λ clean was. reach_forgotten reach reach most (book g old).tables.lines (omega arith) ∙ was)
+tied_lines g old new b reach es (Err e) most tied changed kept = tied_kept g old new b reach es tied kept
 
 pub not_true : (b : Bool) → (IsTrue b → ⊥) → b ≡ false
 not_true true h = absurd (h refl)
@@ -95,7 +105,7 @@ module _ (reach : ℕ) where
       → list_any (has_id (pos id)) ls ≡ false → in_reach reach ls ≡ lines_in reach old.items
       → in_reach reach (with_line (line_at (id, v)) ls) ≡ lines_in reach new.items
   tied_put old new id v ls put taken closed high sorted free tied =
-      reach_put reach (line_at (id, v)) ls free (day_late reach v.day high) ∙ ap (λ ms. with_line (line_at (id, v)) ms) tied
+      reach_put reach (line_at (id, v)) ls free (line_reaches reach (id, v) true (late v high)) ∙ ap (λ ms. with_line (line_at (id, v)) ms) tied
       ∙ sym (ap (λ (d : PlainDays). lines_in reach d.items) put
       ∙ kept_new reach id v old.items (kept_late v closed high)
       (free_after _ _ (item_at id old.items) AmountTooLarge Duplicate (refused_if (is_too_much old.items v) SumTooLarge ∷ []) taken) sorted)
@@ -127,7 +137,7 @@ module _ (reach : ℕ) where
       → in_reach reach (with_line (line_at (id, in_state Used u)) ls) ≡ lines_in reach (settled id es)
   tied_used id u es ls held at high sorted free tied =
       let v = in_state Used u in
-      reach_put reach (line_at (id, v)) ls free (day_late reach v.day high) ∙ ap (λ ms. with_line (line_at (id, v)) ms) tied
+      reach_put reach (line_at (id, v)) ls free (line_reaches reach (id, v) true (late v high)) ∙ ap (λ ms. with_line (line_at (id, v)) ms) tied
       ∙ sym (ap (lines_in reach) (settled_is id u es held at) ∙ kept_set reach id u v es (unkept_open u held) (kept_late v refl high) at sorted)
 
   -- what was spent was given back

@@ -2,14 +2,15 @@
 --
 -- - *In reach*: of the first day that still counts, or of a later one.
 -- - *Tied*: the lines of the file that are in reach are those of the items in reach that are not open.
-use Rattle.std.specs.Prelude.{◌≡◌, ℕ, ℤ, pos, Bool, false, not, ◌&&◌, if◌then◌else◌, nat_le, int_le, List, [], ◌∷◌, filter, refl}
+use Rattle.std.specs.Prelude.{◌≡◌, ◌<◌, ℕ, ℤ, pos, negsuc, Bool, false, not, ◌&&◌, if◌then◌else◌, nat_le, int_le, int_lt, List, [], ◌∷◌, filter, refl}
 use Rattle.std.specs.Coded.{Coded, code_by, coded×, coded_bool, coded_ℕ}
 use Rattle.day_book.specs.declared.item.DayItem.{DayItem}
 use Rattle.day_book.specs.declared.item.State.{State}
-use Rattle.day_book.specs.declared.item.State.TheVariants.{Open, Used, Reversed}
+use Rattle.day_book.specs.declared.item.State.TheVariants.{Used, Reversed}
 use Rattle.day_book.specs.Items.{Items, PlainDays, is_open}
 use Rattle.book_store.specs.Kept.{BookState, IsCleanBook, Kept, kept_code}
 use Rattle.book_store.specs.Lines.{Line}
+use Rattle.book_store.specs.declared.item.Item.{Item}
 use Rattle.lasting_book.specs.Shown.{days_code}
 
 -- a book: its items, its file, the first day in reach, and whether the file has an item that memory did not take
@@ -50,11 +51,29 @@ lines_in reach [] = []
 lines_in reach (e ∷ es) =
     if is_kept reach e.1 then line_at e ∷ lines_in reach es else lines_in reach es
 
--- the lines that are in reach
+-- a line that is in reach; no book has one with an id below 0
+abbrev pub reaches : ℕ → Line → Bool
+reaches reach l = int_lt (negsuc 0) l.id && int_le (pos reach) l.day
+
 abbrev pub in_reach : ℕ → List Line → List Line
-in_reach reach = filter (λ l. int_le (pos reach) l.day)
+in_reach reach = filter (reaches reach)
 
 -- memory and file agree, if neither has failed and the disk has returned what was written
 abbrev pub Tied : Bool → BookState → ℕ → Items → Type 0
 Tied failed file reach items =
     failed ≡ false → file.failed ≡ false → IsCleanBook file → in_reach reach file.tables.lines ≡ lines_in reach items
+
+-- each id is below this one
+abbrev pub AreBelow : ℕ → Items → Type 0
+AreBelow next [] = Unit {0}
+AreBelow next (e ∷ es) = (e.0 < next) × AreBelow next es
+
+-- an item of the file as memory has it
+abbrev pub day_item : Item → DayItem
+day_item i = record {
+  card = i.card.bytes;
+  request = i.request.bytes;
+  amount = i.amount;
+  day = i.day;
+  state = if i.reversed then Reversed else Used;
+}

@@ -2,19 +2,21 @@
 
 ghost use Rattle.std.specs.Prelude.{◌≡◌, ◌++◌, max, false, None, IfErr, IfOk, OnErr, OnOk};
 ghost use Rattle.sha2.specs.Sha256.{sha256};
-ghost use Rattle.book_store.specs.Kept.{book};
+ghost use Rattle.book_store.specs.Kept.{IsCleanBook, book};
 ghost use Rattle.day_book.specs.declared.item.State.TheVariants.{Open};
 ghost use Rattle.day_book.specs.Items.{is_open, is_open_in, is_used_in, item_at, newest, with_items};
 ghost use Rattle.day_book.specs.Changes.{forgotten, is_first_past, released, reversed, settled, with_item};
 ghost use Rattle.day_book.specs.Taking.{IsRefusal, refusal, restoring_refusal};
 ghost use Rattle.lasting_book.specs.Files.{IsKeptOrFailed, Lasts};
-ghost use Rattle.lasting_book.specs.Tied.{Tied};
+ghost use Rattle.lasting_book.specs.Tied.{Tied, in_reach, lines_in};
 
 use crate::error::LastingError;
-use crate::file::{mark, put};
+use crate::file::{forget, mark, put};
+use crate::opening::read_items;
 use book_store::BookFile;
 use day_book::{DayBook, DayBookError, DayItem, RequestDay, State};
 use sqlite::Alter;
+use std::alloc::Global;
 use std::marker::Model;
 
 /// The items of several days in memory, and those that are settled in a file too.
@@ -62,6 +64,34 @@ impl<S: Alter> LastingBook<S> {
             file,
             reach,
             failed: false,
+        }
+    }
+
+    /// Opens a book over its file: takes the file's items into memory, those of days from `reach` on, all
+    /// at once. They are not asked whether they are within the limit. A row that is no item is named, as is
+    /// one that is out of order. A refused `open` hands the file back.
+    pub fn open(
+        alloc: Global,
+        limit: u64,
+        file: BookFile<S>,
+        reach: u32,
+    ) -> Result<LastingBook<S>, (LastingError, BookFile<S>)>
+        ensures limit { IfOk result (λ b. b.days.limit ≡ limit) }
+        ensures reach { IfOk result (λ b. b.reach ≡ reach) }
+        ensures failed { IfOk result (λ b. b.failed ≡ false) }
+        ensures file { IfOk result (λ b. IsKeptOrFailed S.Store file b.file) }
+        ensures items { IfOk result (λ b. IsCleanBook (book S.Store b.file)
+            → in_reach reach (book S.Store file).tables.lines ≡ lines_in reach b.days.items) }
+        ensures left { IfErr result (λ e. IsKeptOrFailed S.Store file e.1) }
+    {
+        let mut days = match DayBook::new(alloc, limit) {
+            Ok(days) => days,
+            Err(error) => return Err((LastingError::Refused(error), file)),
+        };
+        let mut file = file;
+        match read_items(&mut file, &mut days, reach) {
+            Ok(()) => Ok(LastingBook::new(days, file, reach)),
+            Err(error) => Err((error, file)),
         }
     }
 
@@ -229,5 +259,17 @@ impl<S: Alter> LastingBook<S> {
         ensures failed { self.new.failed ≡ self.old.failed }
     {
         self.days.forget(self.reach)
+    }
+
+    /// Forgets in the file at most so many items, in one transaction: the first ones, by id, of its oldest
+    /// day, if this is out of reach. On a refusal the file has failed.
+    pub fn forget_in_file(&mut self, most: i64) -> Result<(), LastingError>
+        ensures days { self.new.days ≡ self.old.days }
+        ensures lasts { OnOk result (Lasts S.Store self.old.file self.new.file) }
+        ensures file_kept { OnErr result (IsKeptOrFailed S.Store self.old.file self.new.file) }
+        ensures reach { self.new.reach ≡ self.old.reach }
+        ensures failed { self.new.failed ≡ self.old.failed }
+    {
+        forget(&mut self.file, self.reach, most)
     }
 }

@@ -13,6 +13,10 @@ pub enum LastingError {
     /// An id or an amount is too large for the file.
     #[error("the id or the amount is too large: expected an id below 2^63, an amount of at most 999999999999")]
     TooLarge,
+    /// The file shows an item out of order: its id is not above that of the one before, or its day is not in
+    /// reach.
+    #[error("the file's item under the id {0} is out of order")]
+    Disorder(u64),
     /// Memory does not take the item.
     #[error("{0}")]
     Refused(DayBookError),

@@ -2,6 +2,7 @@
 
 ghost use Rattle.std.specs.Prelude.{◌≡◌, OnErr, OnOk, false, pos};
 ghost use Rattle.std.specs.List.{list_any};
+ghost use Rattle.book_store.specs.Changes.{forgotten};
 ghost use Rattle.book_store.specs.Items.{line_for};
 ghost use Rattle.book_store.specs.Kept.{IsCleanBook, book};
 ghost use Rattle.book_store.specs.Lines.{has_id, marked, with_line};
@@ -66,6 +67,19 @@ pub fn mark<S: Alter>(file: &mut BookFile<S>, id: u64) -> Result<(), LastingErro
         return Err(LastingError::TooLarge);
     }
     match file.mark(id as i64) {
+        Ok(()) => Ok(()),
+        Err(error) => Err(LastingError::File(error)),
+    }
+}
+
+/// Forgets at most so many items: the first ones, by id, of the oldest day, if this is before the given
+/// one.
+pub fn forget<S: Alter>(file: &mut BookFile<S>, before: u32, most: i64) -> Result<(), LastingError>
+    ensures forgotten { OnOk result
+        (IsChanged S.Store (forgotten (pos before) most) file.old file.new) }
+    ensures kept { OnErr result (IsKeptOrFailed S.Store file.old file.new) }
+{
+    match file.forget(i64::from(before), most) {
         Ok(()) => Ok(()),
         Err(error) => Err(LastingError::File(error)),
     }

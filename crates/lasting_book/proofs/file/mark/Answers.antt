@@ -1,4 +1,4 @@
-use Rattle.std.proofs.Common.{◌≡◌, pos, w64, subst, arith}
+use Rattle.std.proofs.Common.{◌≡◌, w64, subst, arith}
 use Rattle.std.proofs.lemmas.Int.{to_z_pos}
 use Rattle.book_store.specs.Kept.{IsCleanBook, book, changed}
 use Rattle.book_store.specs.Lines.{marked}

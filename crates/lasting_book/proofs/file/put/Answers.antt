@@ -1,4 +1,4 @@
-use Rattle.std.proofs.Common.{◌≡◌, ap, ◌∙◌, arith}
+use Rattle.std.proofs.Common.{ap, ◌∙◌, arith}
 use Rattle.book_store.specs.Kept.{IsCleanBook, Tables, book, changed}
 use Rattle.book_store.specs.Lines.{Line, with_line}
 use Rattle.lasting_book.specs.Tied.{line_at}

@@ -1,7 +1,7 @@
-use Rattle.std.proofs.Common.{◌≡◌, ◌≤◌, Some, inr, refl, sym, ap, subst, ◌∙◌, max, arith}
+use Rattle.std.proofs.Common.{ap, ◌∙◌}
 use Rattle.book_store.specs.Kept.{book}
-use Rattle.day_book.specs.Items.{PlainDays, item_at}
-use Rattle.lasting_book.specs.Tied.{Lasting, Tied, lines_in}
+use Rattle.day_book.specs.Items.{PlainDays}
+use Rattle.lasting_book.specs.Tied.{lines_in}
 use Rattle.lasting_book.proofs.Ties.{tied_items, tied_released}
 use Rattle.lasting_book.proofs.book.LastingBook.release.Goals as goal
 

@@ -1,7 +1,4 @@
-use Rattle.std.proofs.Common.{◌≡◌, ◌≤◌, Some, inr, refl, sym, ap, subst, ◌∙◌, max, arith}
 use Rattle.book_store.specs.Kept.{book}
-use Rattle.day_book.specs.Items.{PlainDays, item_at}
-use Rattle.lasting_book.specs.Tied.{Lasting, Tied, lines_in}
 use Rattle.lasting_book.proofs.Ties.{tied_items, tied_reserved}
 use Rattle.lasting_book.proofs.book.LastingBook.reserve.Goals as goal
 

@@ -1,7 +1,5 @@
-use Rattle.std.proofs.Common.{◌≡◌, ◌≤◌, Some, inr, refl, sym, ap, subst, ◌∙◌, max, arith}
+use Rattle.std.proofs.Common.{inr}
 use Rattle.book_store.specs.Kept.{book}
-use Rattle.day_book.specs.Items.{PlainDays, item_at}
-use Rattle.lasting_book.specs.Tied.{Lasting, Tied, lines_in}
 use Rattle.book_store.specs.Lines.{with_line}
 use Rattle.lasting_book.specs.Tied.{line_at}
 use Rattle.lasting_book.proofs.Ties.{tied_items, tied_changed, tied_put, tied_restored}

@@ -1,7 +1,7 @@
-use Rattle.std.proofs.Common.{◌≡◌, ◌≤◌, Some, inr, refl, sym, ap, subst, ◌∙◌, max, arith}
+use Rattle.std.proofs.Common.{inr, sym, ap, ◌∙◌}
 use Rattle.book_store.specs.Kept.{book}
-use Rattle.day_book.specs.Items.{PlainDays, item_at}
-use Rattle.lasting_book.specs.Tied.{Lasting, Tied, lines_in}
+use Rattle.day_book.specs.Items.{PlainDays}
+use Rattle.lasting_book.specs.Tied.{lines_in}
 use Rattle.std.proofs.Common.{pos}
 use Rattle.book_store.specs.Lines.{marked}
 use Rattle.lasting_book.proofs.Ties.{tied_changed, tied_reversed}
