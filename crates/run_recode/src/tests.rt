@@ -166,54 +166,6 @@ fn frames_are_read_in_any_pieces(rt: HostRuntime) -> Result<(), Fail> {
 }
 
 #[test]
-fn ends_are_told(rt: HostRuntime) -> Result<(), Fail> {
-    let alloc = rt.alloc();
-    let mut told = Vec::new(alloc);
-    let got = read(alloc, 0, joined(alloc, &[PACKED])?, 9, 64, &mut told)?;
-    assert!(rt; got.as_slice() == ASCII);
-    assert!(rt; told.is_empty());
-    let got = read(
-        alloc,
-        0,
-        joined(alloc, &[PACKED, b"\x00"])?,
-        9,
-        64,
-        &mut told,
-    )?;
-    assert!(rt; got.as_slice() == joined(alloc, &[ASCII, b"0"])?.as_slice());
-    assert!(rt; told.starts_with(b"cardswitch: there: after message 1: found 1 bytes"));
-    let mut told = Vec::new(alloc);
-    let bytes = joined(alloc, &[PACKED, b"\xff\xff", PACKED])?;
-    let got = read(alloc, 0, bytes, 9, 64, &mut told)?;
-    assert!(rt; got.as_slice() == joined(alloc, &[ASCII, b"----"])?.as_slice());
-    assert!(rt; told.starts_with(b"cardswitch: there: after message 1: no frame begins here"));
-    Ok(())
-}
-
-#[test]
-fn headers_stay(rt: HostRuntime) -> Result<(), Fail> {
-    let alloc = rt.alloc();
-    let mut told = Vec::new(alloc);
-    let bytes = joined(
-        alloc,
-        &[
-            b"\x00\x1cHH",
-            &PACKED[2..],
-            b"\x00\x04hh\x99\x99",
-            b"\x00\x01h",
-            b"\x00\x02ab",
-        ],
-    )?;
-    let got = read(alloc, 2, bytes, 7, 5, &mut told)?;
-    let wanted = joined(
-        alloc,
-        &[b"0046HH", &ASCII[4..], b"0002hh", b"0001h", b"0002ab"],
-    )?;
-    assert!(rt; got.as_slice() == wanted.as_slice());
-    Ok(())
-}
-
-#[test]
 fn an_error_of_the_reader_loses_nothing(rt: HostRuntime) -> Result<(), Fail> {
     let alloc = rt.alloc();
     let Some(plan) = plan(alloc, Way::FromOther, 0, Instead::EmptyFrame) else {
@@ -302,31 +254,5 @@ fn frames_are_written_in_any_pieces(rt: HostRuntime) -> Result<(), Fail> {
         taking_five(alloc, 1_000),
     )?;
     assert!(rt; silent && got.as_slice() == PACKED);
-    Ok(())
-}
-
-#[test]
-fn headers_are_written(rt: HostRuntime) -> Result<(), Fail> {
-    let alloc = rt.alloc();
-    let bytes = joined(alloc, &[b"0054HH", &UNWRITABLE[4..], b"0002ab", b"0003abc"])?;
-    let wanted = joined(alloc, &[b"\x00\x1eHH", &REFUSED[2..], b"\x00\x02ab"])?;
-    let with = Instead::FormatError;
-    let (got, _) = written(alloc, 2, with, &bytes, 11, taking_five(alloc, 1_000))?;
-    assert!(rt; got.as_slice() == wanted.as_slice());
-    Ok(())
-}
-
-#[test]
-fn bytes_pass_without_a_profile(rt: HostRuntime) -> Result<(), Fail> {
-    let alloc = rt.alloc();
-    let mut reader: RecodedReader<&[u8], std::io::Sink> = RecodedReader::plain(
-        b"no frames".as_slice(),
-    );
-    let mut all = Vec::new(alloc);
-    reader.read_to_end(&mut all)?;
-    assert!(rt; all.as_slice() == b"no frames".as_slice());
-    let mut writer: RecodedWriter<Vec<u8>, std::io::Sink> = RecodedWriter::plain(all);
-    writer.write_all(b" here")?;
-    writer.flush()?;
     Ok(())
 }
