@@ -5,3 +5,4 @@ mod Showing
 mod Openings
 mod Serving
 mod Stepping
+mod Profiled
