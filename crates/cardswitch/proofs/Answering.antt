@@ -23,8 +23,7 @@ use Rattle.run_setup.specs.Plans.{IsSetUp, journal_of, limit_of, log_path_of, no
 use Rattle.sw_book.specs.Most.{max_limit}
 use Rattle.cardswitch.specs.Errors.{error_at}
 use Rattle.cardswitch.specs.Journals.{IsFound, IsNewJournal, IsOfFile}
-use Rattle.run_recode.specs.Flows.{known_without}
-use Rattle.cardswitch.specs.Runs.{AnsweredOver, IsAcquirerFault, IsRunFaultOver, IsSeen}
+use Rattle.cardswitch.specs.Runs.{AnsweredOver, IsAcquirerFault, IsRunFaultOver}
 use Rattle.cardswitch.specs.Runs.{Answered, AnsweredBy, IfTaken, IsConfigAt, IsConfigFault, IsFileFault, IsFlowFault, IsLogFault, IsOpenFault, IsRecoverFault, IsRunFault}
 use Rattle.cardswitch.specs.Runs.{IsRunFaultBy, IsServeError, IsServeFault, Recovered, Served, ended_at, sender_of_setup}
 use Rattle.cardswitch.specs.SetUps.{TakesSetUp}
@@ -115,28 +114,21 @@ answered_requests files code config o unread before after r checked stated refus
 
 -- the same of what the streams are read and written through
 pub answered_through : {S : Type 0} (files : Ghosts S) (flow : Flow) (o : RunOptions) (c : Config) (u b a requests earlier responses : Option (List ℕ))
-    (r : Result (Unit {0}) RunError) → IfNone c.run.profile ((requests ≡ u) × (earlier ≡ b)) → IsSeen responses a
+    (r : Result (Unit {0}) RunError) → IfNone c.run.profile ((requests ≡ u) × (earlier ≡ b) × (responses ≡ a))
     → OnOk r (AnsweredBy files flow o c requests earlier responses) → OnOk r (AnsweredOver files flow o c u b a)
-answered_through files flow o c u b a requests earlier responses r same seen h =
+answered_through files flow o c u b a requests earlier responses r same h =
     on_ok _ _ r (λ (x : AnsweredBy files flow o c requests earlier responses). record {
       requests = requests;
       earlier = earlier;
       responses = responses;
       plain = same;
-      seen = seen;
       answered = x;
     }) h
 
 pub refused_through : (o : RunOptions) (c : Config) (b a earlier later : Option (List ℕ)) (r : Result (Unit {0}) RunError)
-    → IfNone c.run.profile (earlier ≡ b) → IsSeen later a → IfErr r (IsRunFaultBy o c earlier later) → IfErr r (IsRunFaultOver o c b a)
-refused_through o c b a earlier later (Ok done) same seen h = tt
-refused_through o c b a earlier later (Err e) same seen h = inr (earlier, later, same, seen, h)
-
--- what a writer that recodes shows is what the one inside has, if it shows anything
-pub seen_without : {X : Type 0} (side : Option X) (inside : Option (List ℕ)) → IsSeen (known_without side inside) inside
-seen_without None None = tt
-seen_without None (Some bytes) = refl
-seen_without (Some x) inside = tt
+    → IfNone c.run.profile ((earlier ≡ b) × (later ≡ a)) → IfErr r (IsRunFaultBy o c earlier later) → IfErr r (IsRunFaultOver o c b a)
+refused_through o c b a earlier later (Ok done) same h = tt
+refused_through o c b a earlier later (Err e) same h = inr (earlier, later, same, h)
 
 -- without a file nothing is stated
 none_stated : (path : Option (Bor (List ℕ))) → IsConfigAt path no_config
@@ -203,8 +195,8 @@ run_refused o c before after (error.JournalFile path cause) stated fault = (c, s
 run_refused o c before after (error.Journal path cause) stated fault = (c, stated, fault)
 run_refused o c before after (error.Engine path cause) stated fault = (c, stated, fault)
 run_refused o c before after (error.Serve e) stated fault = (c, stated, fault)
-run_refused o c before after (error.FlowFile path cause) stated fault = elim fault [ inl x ↦ absurd x | inr x ↦ absurd x.4 ]
-run_refused o c before after (error.ConfigFile path cause) stated fault = elim fault [ inl x ↦ absurd x | inr x ↦ absurd x.4 ]
+run_refused o c before after (error.FlowFile path cause) stated fault = elim fault [ inl x ↦ absurd x | inr x ↦ absurd x.3 ]
+run_refused o c before after (error.ConfigFile path cause) stated fault = elim fault [ inl x ↦ absurd x | inr x ↦ absurd x.3 ]
 run_refused o c before after (error.ProfileFile path cause) stated fault = (c, stated, fault)
 run_refused o c before after (error.SetUp e) stated fault = (c, stated, fault)
 run_refused o c before after (error.LogFile p cause) stated fault = (c, stated, fault)

@@ -81,11 +81,6 @@ pub record AnsweredBy {S : Type 0} (files : Ghosts S) (flow : Flow) (o : RunOpti
   pub found : IsFound files (journal_of o c) journal
   pub served : Served setup.header setup.threads flow setup.sessions journal (sender_of_setup setup) setup.advices unread before after
 
--- what is known of a writer is what the writer inside has
-abbrev pub IsSeen : Option (List ℕ) → Option (List ℕ) → Type 0
-IsSeen None inside = ⊤
-IsSeen (Some bytes) inside = inside ≡ Some bytes
-
 -- The same of what the streams of the run are read and written through: without a profile of the acquirer they are the streams
 -- themselves; what is read and written with one is said by `run_recode`.
 pub record AnsweredOver {S : Type 0} (files : Ghosts S) (flow : Flow) (o : RunOptions) (c : Config)
@@ -93,8 +88,7 @@ pub record AnsweredOver {S : Type 0} (files : Ghosts S) (flow : Flow) (o : RunOp
   pub requests : Option (List ℕ)
   pub earlier : Option (List ℕ)
   pub responses : Option (List ℕ)
-  pub plain : IfNone c.run.profile ((requests ≡ unread) × (earlier ≡ before))
-  pub seen : IsSeen responses after
+  pub plain : IfNone c.run.profile ((requests ≡ unread) × (earlier ≡ before) × (responses ≡ after))
   pub answered : AnsweredBy files flow o c requests earlier responses
 
 -- the same, with the configuration of the file that `--config` names
@@ -194,7 +188,7 @@ IsAcquirerFault c before after _ = ⊥
 abbrev pub IsRunFaultOver : RunOptions → Config → Option (List ℕ) → Option (List ℕ) → RunError → Type 0
 IsRunFaultOver o c before after e =
     IsAcquirerFault c before after e
-    ⊎ ((earlier later : Option (List ℕ)) × IfNone c.run.profile (earlier ≡ before) × IsSeen later after × IsRunFaultBy o c earlier later e)
+    ⊎ ((earlier later : Option (List ℕ)) × IfNone c.run.profile ((earlier ≡ before) × (later ≡ after)) × IsRunFaultBy o c earlier later e)
 
 -- The faults of `run`: its flow file, its configuration file, and those that its configuration leaves.
 abbrev pub IsRunFault : RunOptions → Option (List ℕ) → Option (List ℕ) → RunError → Type 0

@@ -307,6 +307,9 @@ fn answer_recoded<
     let flow = flow?;
     let config = config?;
     let (alloc, rt) = (machine.alloc, machine.rt);
+    let Some(_) = &config.run.profile else {
+        return answer_by(machine, Ok(flow), Ok(config), options, input, out);
+    };
     let passages = run_passages(alloc, rt, options, &config)?;
     let input = reader_over(alloc, &passages.from, input, rt.stderr())?;
     let mut edge = writer_over(alloc, &passages.to, out, rt.stderr())?;

@@ -1,3 +1,5 @@
+ghost use Rattle.std.specs.Prelude.{◌<◌};
+
 use crate::{RecodedReader, RecodedWriter};
 use cli_recode::{Instead, Plan, Recoding, Way, plan_of};
 use dialect_toml::read_profile;
@@ -56,15 +58,10 @@ impl Read for Slow {
         if self.at >= self.fails_at {
             return Err(io::Error::from(ErrorKind::ConnectionReset));
         }
-        if self.at > self.bytes.len() {
-            return Ok(0);
-        }
-        let rest = self.bytes.len() - self.at;
-        let count = rest.min(self.each).min(buf.len());
-        for i in 0..count {
-            buf[i] = self.bytes[self.at + i];
-        }
-        self.at += count;
+        let (_, rest) = self.bytes.split_at(self.at.min(self.bytes.len()));
+        let count = rest.len().min(self.each).min(buf.len());
+        buf[..count].copy_from_slice(&rest[..count]);
+        self.at = self.at.saturating_add(count);
         Ok(count)
     }
 }
@@ -196,7 +193,9 @@ fn written(
     bytes: &[u8],
     each: usize,
     narrow: Narrow,
-) -> io::Result<(Vec<u8>, bool)> {
+) -> io::Result<(Vec<u8>, bool)>
+    requires { 0 < each }
+{
     let Some(plan) = plan(alloc, Way::ToOther, header, instead) else {
         return Err(io::Error::from(ErrorKind::Other));
     };

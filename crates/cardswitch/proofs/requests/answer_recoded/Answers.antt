@@ -1,7 +1,7 @@
-use Rattle.std.proofs.Common.{ap, inl, refl}
+use Rattle.std.proofs.Common.{refl}
 use Rattle.std.proofs.lemmas.Result.{err_from_is_err_and}
-use Rattle.cardswitch.proofs.Answering.{taken}
-use Rattle.cardswitch.proofs.Profiled.{acquirer_refused, answered_recoded, reads_plain, refused_recoded, writes_plain}
+use Rattle.cardswitch.proofs.Answering.{answered_through, refused_through, taken}
+use Rattle.cardswitch.proofs.Profiled.{acquirer_refused, anyhow, no_memory, with_profile}
 use Rattle.cardswitch.proofs.requests.answer_recoded.Goals as goal
 
 pub returns-in_err-passages-clause-failed : goal.returns-in_err-passages-clause-failed
@@ -14,19 +14,16 @@ pub returns-in_err-edge-clause-failed : goal.returns-in_err-edge-clause-failed
 returns-in_err-edge-clause-failed g c =
     let error = err_from_is_err_and c.from_residual-in_err-edge.result c.from_residual-in_err-edge.ensures.1 in
     taken _ c.args.flow c.args.config c.in_ok-flow.flow c.in_ok-config.config c.in_ok-flow.was c.in_ok-config.was
-    (rw (error.1, error.2) (inl refl))
+    (rw (error.1, error.2) (no_memory c.args.options.now c.in_ok-config.config _ _ _ ?))
 
 pub returns-clause-answered : goal.returns-clause-answered
 returns-clause-answered g c =
     taken _ c.args.flow c.args.config c.in_ok-flow.flow c.in_ok-config.config c.in_ok-flow.was c.in_ok-config.was
-    (answered_recoded _ c.in_ok-flow.flow c.args.options.now c.in_ok-config.config c.in_ok-input.input.side c.in_ok-edge.edge.side _ _ _ _ _ _ _ c.answer_by.result
-    (reads_plain _ c.in_ok-passages.passages c.in_ok-input.input.side c.in_ok-passages.ensures.plain c.in_ok-input.ensures.plain)
-    (writes_plain _ c.in_ok-passages.passages c.in_ok-edge.edge.side c.in_ok-passages.ensures.plain c.in_ok-edge.ensures.plain)
-    (ap g.R.Read.remaining c.in_ok-input.ensures.inner) ? ? c.answer_by.ensures.answered)
+    (answered_through _ c.in_ok-flow.flow c.args.options.now c.in_ok-config.config _ _ _ _ _ _ c.answer_by.result
+    (with_profile _ c.in_ok-config.config.run.profile _ ?) c.answer_by.ensures.answered)
 
 pub returns-clause-failed : goal.returns-clause-failed
 returns-clause-failed g c =
     taken _ c.args.flow c.args.config c.in_ok-flow.flow c.in_ok-config.config c.in_ok-flow.was c.in_ok-config.was
-    (refused_recoded c.args.options.now c.in_ok-config.config c.in_ok-edge.edge.side _ _ _ _ _ c.answer_by.result
-    (writes_plain _ c.in_ok-passages.passages c.in_ok-edge.edge.side c.in_ok-passages.ensures.plain c.in_ok-edge.ensures.plain)
-    ? ? c.answer_by.ensures.failed)
+    (refused_through c.args.options.now c.in_ok-config.config _ _ _ _ c.answer_by.result
+    (with_profile _ c.in_ok-config.config.run.profile _ ?) c.answer_by.ensures.failed)
