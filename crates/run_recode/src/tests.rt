@@ -1,5 +1,3 @@
-ghost use Rattle.std.specs.Prelude.{◌<◌};
-
 use crate::{RecodedReader, RecodedWriter};
 use cli_recode::{Instead, Plan, Recoding, Way, plan_of};
 use dialect_toml::read_profile;
@@ -58,10 +56,15 @@ impl Read for Slow {
         if self.at >= self.fails_at {
             return Err(io::Error::from(ErrorKind::ConnectionReset));
         }
-        let (_, rest) = self.bytes.split_at(self.at.min(self.bytes.len()));
-        let count = rest.len().min(self.each).min(buf.len());
-        buf[..count].copy_from_slice(&rest[..count]);
-        self.at = self.at.saturating_add(count);
+        if self.at > self.bytes.len() {
+            return Ok(0);
+        }
+        let rest = self.bytes.len() - self.at;
+        let count = rest.min(self.each).min(buf.len());
+        for i in 0..count {
+            buf[i] = self.bytes[self.at + i];
+        }
+        self.at += count;
         Ok(count)
     }
 }
@@ -193,9 +196,7 @@ fn written(
     bytes: &[u8],
     each: usize,
     narrow: Narrow,
-) -> io::Result<(Vec<u8>, bool)>
-    requires { 0 < each }
-{
+) -> io::Result<(Vec<u8>, bool)> {
     let Some(plan) = plan(alloc, Way::ToOther, header, instead) else {
         return Err(io::Error::from(ErrorKind::Other));
     };
