@@ -3,8 +3,9 @@
 use Rattle.std.proofs.Common.{◌≡◌, ◌<◌, ◌≤◌, ◌+◌, ℕ, ℤ, pos, Bool, true, false, not, ◌&&◌, nat_le, if◌then◌else◌, cond, List, [], ◌∷◌, ◌++◌, Option, Some, None, refl, sym, ap, subst, ◌∙◌, arith}
 use Rattle.std.proofs.Common.{get_or, length, map, suc, take, zero}
 use Rattle.std.proofs.lemmas.List.{take_all, take_more}
+use Rattle.std.specs.declared.cmp.Ordering.{Ordering}
 use Rattle.std.specs.Ordering.{nat_cmp, match_ordering}
-use Rattle.std.specs.declared.cmp.Ordering.TheVariants.{Greater}
+use Rattle.std.specs.declared.cmp.Ordering.TheVariants.{Less, Equal, Greater}
 use Rattle.std.proofs.lemmas.Bool.Decides.{nat_tests}
 use Rattle.sqlite_rules.specs.Edit.{id_in}
 use Rattle.sqlite_value.specs.Order.{Row, bytes, column}
@@ -16,7 +17,7 @@ use Rattle.day_book.specs.declared.item.DayItem.{DayItem}
 use Rattle.day_book.specs.declared.item.State.TheVariants.{Reversed, Used}
 use Rattle.day_book.specs.Items.{Items, is_open}
 use Rattle.day_book.specs.Changes.{with_item}
-use Rattle.lasting_book.specs.Tied.{AreBelow, day_item, is_kept, line_at, lines_in, mark_of}
+use Rattle.lasting_book.specs.Tied.{AreBelow, AreKept, day_item, is_kept, line_at, lines_in, mark_of}
 
 above : (a b : ℕ) → b < a → nat_cmp a b ≡ Greater
 above a b h = grind (arith, nat_tests, h)
@@ -44,6 +45,17 @@ lines_last reach id v (e ∷ es) all kept =
         ≡ cond b (line_at e ∷ lines_in reach es) (lines_in reach es) ++ line_at (id, v) ∷ []
     by true go = ap {B = List Line} (λ z. line_at e ∷ z) go
     by false go = go
+
+-- an item that is kept is put among those that are
+pub kept_more : (reach id : ℕ) (v : DayItem) (es : Items) → is_kept reach v ≡ true → AreKept reach es → AreKept reach (with_item id v es)
+kept_more reach id v [] kept all = (kept, tt)
+kept_more reach id v (e ∷ es) kept all = by (nat_cmp id e.0) (kept_more reach id v es kept all.1)
+  where
+    by : (o : Ordering) → AreKept reach (with_item id v es)
+        → AreKept reach (match_ordering o ((id, v) ∷ e ∷ es) ((e.0, v) ∷ es) (e ∷ with_item id v es))
+    by Less go = (kept, all)
+    by Equal go = (kept, all.1)
+    by Greater go = (all.0, go)
 
 -- what a row shows is the line of the item that was read
 mark_is : (b : Bool) → mark_of (if b then Reversed else Used) ≡ (if b then pos 1 else pos 0)

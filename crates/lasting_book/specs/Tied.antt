@@ -2,7 +2,7 @@
 --
 -- - *In reach*: of the first day that still counts, or of a later one.
 -- - *Tied*: the lines of the file that are in reach are those of the items in reach that are not open.
-use Rattle.std.specs.Prelude.{◌≡◌, ◌<◌, ℕ, ℤ, pos, negsuc, Bool, false, not, ◌&&◌, if◌then◌else◌, nat_le, int_le, int_lt, List, [], ◌∷◌, filter, refl}
+use Rattle.std.specs.Prelude.{◌≡◌, ◌<◌, ℕ, ℤ, pos, negsuc, Bool, false, true, not, ◌&&◌, if◌then◌else◌, nat_le, int_le, int_lt, List, [], ◌∷◌, filter, refl}
 use Rattle.std.specs.Coded.{Coded, code_by, coded×, coded_bool, coded_ℕ}
 use Rattle.day_book.specs.declared.item.DayItem.{DayItem}
 use Rattle.day_book.specs.declared.item.State.{State}
@@ -67,6 +67,11 @@ Tied failed file reach items =
 abbrev pub AreBelow : ℕ → Items → Type 0
 AreBelow next [] = Unit {0}
 AreBelow next (e ∷ es) = (e.0 < next) × AreBelow next es
+
+-- each item is one that the file has too, and in reach
+abbrev pub AreKept : ℕ → Items → Type 0
+AreKept reach [] = Unit {0}
+AreKept reach (e ∷ es) = (is_kept reach e.1 ≡ true) × AreKept reach es
 
 -- an item of the file as memory has it
 abbrev pub day_item : Item → DayItem

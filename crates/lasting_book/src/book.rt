@@ -8,7 +8,7 @@ ghost use Rattle.day_book.specs.Items.{is_open, is_open_in, is_used_in, item_at,
 ghost use Rattle.day_book.specs.Changes.{forgotten, is_first_past, released, reversed, settled, with_item};
 ghost use Rattle.day_book.specs.Taking.{IsRefusal, refusal, restoring_refusal};
 ghost use Rattle.lasting_book.specs.Files.{IsKeptOrFailed, Lasts};
-ghost use Rattle.lasting_book.specs.Tied.{Tied, in_reach, lines_in};
+ghost use Rattle.lasting_book.specs.Tied.{AreKept, Tied, in_reach, lines_in};
 
 use crate::error::LastingError;
 use crate::file::{forget, mark, put};
@@ -82,6 +82,7 @@ impl<S: Alter> LastingBook<S> {
         ensures file { IfOk result (λ b. IsKeptOrFailed S.Store file b.file) }
         ensures items { IfOk result (λ b. IsCleanBook (book S.Store b.file)
             → in_reach reach (book S.Store file).tables.lines ≡ lines_in reach b.days.items) }
+        ensures kept { IfOk result (λ b. AreKept reach b.days.items) }
         ensures left { IfErr result (λ e. IsKeptOrFailed S.Store file e.1) }
     {
         let mut days = match DayBook::new(alloc, limit) {
@@ -93,6 +94,19 @@ impl<S: Alter> LastingBook<S> {
             Ok(()) => Ok(LastingBook::new(days, file, reach)),
             Err(error) => Err((error, file)),
         }
+    }
+
+    /// Hands back the file, which has what it had. What is held is lost.
+    pub fn into_file(self) -> BookFile<S>
+        ensures { result ≡ self.file }
+    {
+        let LastingBook {
+            days: _,
+            file,
+            reach: _,
+            failed: _,
+        } = self;
+        file
     }
 
     /// The first day in reach. Memory and file agree.
@@ -161,6 +175,7 @@ impl<S: Alter> LastingBook<S> {
         ensures lasts { OnOk result (Lasts S.Store self.old.file self.new.file) }
         ensures days_kept { OnErr result (self.new.days ≡ self.old.days) }
         ensures file_kept { OnErr result (IsKeptOrFailed S.Store self.old.file self.new.file) }
+        ensures salt { self.new.file.salt ≡ self.old.file.salt }
         ensures reach { self.new.reach ≡ self.old.reach }
         ensures failed { self.new.failed ≡ self.old.failed }
     {
@@ -193,6 +208,7 @@ impl<S: Alter> LastingBook<S> {
         ensures lasts { OnOk result (Lasts S.Store self.old.file self.new.file) }
         ensures days_kept { OnErr result (self.new.days ≡ self.old.days) }
         ensures file_kept { OnErr result (IsKeptOrFailed S.Store self.old.file self.new.file) }
+        ensures salt { self.new.file.salt ≡ self.old.file.salt }
         ensures reach { self.new.reach ≡ self.old.reach }
         ensures failed { self.new.failed ≡ self.old.failed }
     {
@@ -219,6 +235,7 @@ impl<S: Alter> LastingBook<S> {
         ensures taken { OnOk result (restoring_refusal self.old.days id item ≡ None) }
         ensures lasts { OnOk result (Lasts S.Store self.old.file self.new.file) }
         ensures days_kept { OnErr result (self.new.days ≡ self.old.days) }
+        ensures salt { self.new.file.salt ≡ self.old.file.salt }
         ensures reach { self.new.reach ≡ self.old.reach }
         ensures failed { OnOk result (self.new.failed ≡ self.old.failed) }
     {
@@ -267,6 +284,7 @@ impl<S: Alter> LastingBook<S> {
         ensures days { self.new.days ≡ self.old.days }
         ensures lasts { OnOk result (Lasts S.Store self.old.file self.new.file) }
         ensures file_kept { OnErr result (IsKeptOrFailed S.Store self.old.file self.new.file) }
+        ensures salt { self.new.file.salt ≡ self.old.file.salt }
         ensures reach { self.new.reach ≡ self.old.reach }
         ensures failed { self.new.failed ≡ self.old.failed }
     {

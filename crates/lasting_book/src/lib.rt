@@ -5,7 +5,8 @@
 //! still counts for the limit or for repeats: from `reach` on. What is out of reach is no longer put into
 //! the file, and is forgotten in both, each at its own pace.
 //!
-//! - `LastingBook::open` takes the file's items that are in reach into memory.
+//! - `LastingBook::open` takes the file's items that are in reach into memory, and `into_file` hands the
+//!   file back.
 //! - `LastingBook::reserve` and `LastingBook::release` are those of `DayBook`, in memory alone.
 //! - `LastingBook::settle` puts the item into the file, in one transaction, and then uses it in memory.
 //!   `LastingBook::reverse` marks the item in the file, and then in memory.
@@ -18,7 +19,8 @@
 //! Of any store of `sqlite`, if the disk returns what was written. **Memory and file agree** (`Tied`, the
 //! invariant of the type): as long as the book and its file have not failed, the file's items that are in
 //! reach are those of memory that are not open, one for one, each with id, card, request, amount, day and
-//! whether it was reversed. Each call keeps that, whatever it answers. Once `settle`, `reverse` or
+//! whether it was reversed. Each call keeps that, whatever it answers. An `open` starts with these items
+//! alone (`items`, `kept`), so none is open. Once `settle`, `reverse` or
 //! `restore` has answered, a stop leaves what the file then has (`lasts`). What memory does is what
 //! `day_book` says of its items. On a refusal memory is as it was (`days_kept`), and the file has failed or is
 //! as it was (`file_kept`).

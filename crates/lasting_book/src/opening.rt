@@ -5,7 +5,7 @@ ghost use Rattle.book_store.specs.Kept.{IsCleanBook, book};
 ghost use Rattle.book_store.specs.Lines as file_lines;
 ghost use Rattle.book_store.specs.Queries.{shown_line};
 ghost use Rattle.lasting_book.specs.Files.{IsKeptOrFailed};
-ghost use Rattle.lasting_book.specs.Tied.{AreBelow, day_item, in_reach, lines_in};
+ghost use Rattle.lasting_book.specs.Tied.{AreBelow, AreKept, day_item, in_reach, lines_in};
 
 use crate::error::LastingError;
 use book_store::{BookFile, Item, item_in};
@@ -35,6 +35,7 @@ fn take_row(days: &mut DayBook, row: &Row, reach: u32, next: u64) -> Result<u64,
     requires below { AreBelow next days.old.items }
     ensures limit { days.new.limit ≡ days.old.limit }
     ensures below { IfOk result (λ n. AreBelow n days.new.items) }
+    ensures kept { AreKept reach days.old.items → OnOk result (AreKept reach days.new.items) }
     ensures taken { OnOk result ((l : file_lines.Line) → row.now ≡ shown_line l
         → lines_in reach days.new.items ≡ lines_in reach days.old.items ++ l ∷ []) }
 {
@@ -57,6 +58,7 @@ fn take_rows(days: &mut DayBook, rows: &[Row], reach: u32) -> Result<(), Lasting
     ensures limit { days.new.limit ≡ days.old.limit }
     ensures taken { OnOk result ((ls : List file_lines.Line) → rows.now ≡ map shown_line ls
         → lines_in reach days.new.items ≡ ls) }
+    ensures kept { OnOk result (AreKept reach days.new.items) }
 {
     let mut next = 0;
     for row in rows {
@@ -75,6 +77,7 @@ pub fn read_items<S: Alter>(
     ensures limit { days.new.limit ≡ days.old.limit }
     ensures read { IsCleanBook (book S.Store file.new) → OnOk result
         (in_reach reach (book S.Store file.old).tables.lines ≡ lines_in reach days.new.items) }
+    ensures items { OnOk result (AreKept reach days.new.items) }
     ensures kept { IsKeptOrFailed S.Store file.old file.new }
 {
     let rows = match file.next(-1, i64::from(reach), -1) {

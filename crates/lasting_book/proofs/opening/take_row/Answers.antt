@@ -2,8 +2,8 @@ use Rattle.std.proofs.Common.{◌≡◌, ◌+◌, ◌++◌, ◌∷◌, [], true,
 use Rattle.book_store.specs.Lines.{Line}
 use Rattle.day_book.specs.declared.item.DayItem.{DayItem}
 use Rattle.day_book.specs.Items.{PlainDays}
-use Rattle.lasting_book.specs.Tied.{AreBelow, is_kept, line_at, lines_in}
-use Rattle.lasting_book.proofs.LastItems.{below_last, below_more, kept_shown, line_shown, lines_last}
+use Rattle.lasting_book.specs.Tied.{AreBelow, AreKept, is_kept, line_at, lines_in}
+use Rattle.lasting_book.proofs.LastItems.{below_last, below_more, kept_more, kept_shown, line_shown, lines_last}
 use Rattle.lasting_book.proofs.opening.take_row.Goals as goal
 
 pub returns-in-Ok-restore-clause-below : goal.returns-in-Ok-restore-clause-below
@@ -24,3 +24,11 @@ returns-in-Ok-restore-clause-taken c l is =
     ap (λ (d : PlainDays). lines_in c.args.reach d.items) c.in-Ok-restore.ensures.put
     ∙ lines_last c.args.reach item.id c.day_item.result es (below_more c.args.next item.id es c.if-item-next.false c.requires.below) kept
     ∙ ap (λ (z : Line). lines_in c.args.reach es ++ z ∷ []) line
+
+pub returns-in-Ok-restore-clause-kept : goal.returns-in-Ok-restore-clause-kept
+returns-in-Ok-restore-clause-kept c all =
+    let item = c.in-Ok.item in
+    let kept : is_kept c.args.reach c.day_item.result ≡ true =
+    ap (λ (v : DayItem). is_kept c.args.reach v) c.day_item.ensures ∙ kept_shown c.args.reach item c.if-item-reach.false in
+    subst (λ (d : PlainDays). AreKept c.args.reach d.items) (sym c.in-Ok-restore.ensures.put)
+    (kept_more c.args.reach item.id c.day_item.result c.args.days.now.items kept all)
