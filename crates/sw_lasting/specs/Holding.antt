@@ -51,17 +51,20 @@ code_for _ = rc.DuplicateTransmission
 abbrev pub with_days : Items → Keeping → Keeping
 with_days items k = record k { days = with_items k.days items }
 
--- An item of a day is held. The day is then today, days before the one before it are out of reach, and at most two items of
--- these are forgotten.
-abbrev pub held_on : ℕ → DayItem → Keeping → Keeping
-held_on id item k =
-    let reach = max k.reach (item.day - 1) in
+-- A day is then today, days before the one before it are out of reach, and at most two items of these are forgotten.
+abbrev pub moved_on : ℕ → Keeping → Keeping
+moved_on day k =
+    let reach = max k.reach (day - 1) in
     record {
-      days = with_items k.days (forgotten reach (forgotten reach (with_item id item k.days.items)));
+      days = with_items k.days (forgotten reach (forgotten reach k.days.items));
       reach = reach;
-      today = item.day;
+      today = day;
       salt = k.salt;
     }
+
+-- an item is held on its day
+abbrev pub held_on : ℕ → DayItem → Keeping → Keeping
+held_on id item k = moved_on item.day (with_days (with_item id item k.days.items) k)
 
 -- a preparation: what is kept and the context before, answer byte, what is kept and the context after
 abbrev pub KeepingStep : Type 1
@@ -75,6 +78,14 @@ HeldBy None id item k x byte after y =
     ⊎ ((put_refusal x limits_name (day_bytes item.day) ≢ None) × (byte ≡ refuses)
     × (after ≡ k) × (y ≡ coded rc.SystemMalfunction x))
 HeldBy (Some e) id item k x byte after y = (byte ≡ refuses) × (after ≡ k) × (y ≡ coded (code_for e) x)
+
+-- what was just held is noted, or freed again
+abbrev pub NotedBy : ℕ → DayItem → KeepingStep
+NotedBy id item k x byte after y =
+    ((put_refusal x limits_name (day_bytes item.day) ≡ None) × (byte ≡ reserves)
+    × (after ≡ moved_on item.day k) × (y ≡ with_day item.day x))
+    ⊎ ((put_refusal x limits_name (day_bytes item.day) ≢ None) × (byte ≡ refuses)
+    × (after ≡ with_days (released id k.days.items) k) × (y ≡ coded rc.SystemMalfunction x))
 
 abbrev pub PassesBy : ℕ → KeepingStep
 PassesBy answer k x byte after y = (byte ≡ answer) × (after ≡ k) × (y ≡ x)

@@ -1,13 +1,13 @@
 //! What the limits do with their book.
 
-ghost use Rattle.std.specs.Prelude.{◌≡◌, ◌≤◌, IfOk, OnErr, OnOk};
+ghost use Rattle.std.specs.Prelude.{◌≡◌, ◌≤◌, ℕ, Some, IfOk, OnErr, OnOk, false};
 ghost use Rattle.day_book.specs.declared.item.State.TheVariants.{Open};
 ghost use Rattle.day_book.specs.Items.{is_open};
 ghost use Rattle.day_book.specs.Taking.{refusal};
-ghost use Rattle.sw_lasting.specs.Holding.{HeldBy, code_for, given_back, item_on, made_known};
-ghost use Rattle.sw_lasting.specs.Holding.{put_noted, recent, with_days};
+ghost use Rattle.day_book.specs.Changes.{released, settled};
+ghost use Rattle.sw_lasting.specs.Holding.{HeldBy, NotedBy, code_for, given_back, item_on};
+ghost use Rattle.sw_lasting.specs.Holding.{put_noted, with_days};
 ghost use Rattle.sw_lasting.specs.Keeping.{keeping};
-ghost use Rattle.day_book.specs.Changes.{in_state, settled};
 
 use crate::noting::LIMITS;
 use day_book::{DayBookError, DayItem, RequestDay, State};
@@ -93,7 +93,13 @@ fn note_held<S: Alter>(
     id: u64,
     item: DayItem,
     context: &mut Context,
-) -> Result<u8, NoMemory> {
+) -> Result<u8, NoMemory>
+    ensures noted { IfOk result (λ byte. NotedBy id item (keeping book.old today.old)
+        context.old byte (keeping book.new today.new) context.new) }
+    ensures freed { OnErr result (keeping book.new today.new
+        ≡ with_days (released id book.old.days.items) (keeping book.old today.old)) }
+    ensures context_kept { OnErr result (context.new ≡ context.old) }
+{
     match context.put(LIMITS, &item.day.to_be_bytes()) {
         Ok(()) => {
             book.advance(item.day.saturating_sub(1));
@@ -116,10 +122,9 @@ fn note_held<S: Alter>(
 
 /// Spends what is held. Where the file refuses, the call is not made.
 pub fn spend<S: Alter>(book: &mut LastingBook<S>, id: u64) -> Result<(), NoMemory>
-    ensures spent { OnOk result (book.new.days
-        ≡ (with_days (settled id book.old.days.items) (keeping book.old 0)).days) }
-    ensures kept { OnErr result (book.new.days ≡ book.old.days) }
-    ensures reach { book.new.reach ≡ book.old.reach }
+    ensures spent { OnOk result ((today : ℕ) → keeping book.new today
+        ≡ with_days (settled id book.old.days.items) (keeping book.old today)) }
+    ensures kept { OnErr result ((today : ℕ) → keeping book.new today ≡ keeping book.old today) }
 {
     match book.settle(id) {
         Ok(_) => Ok(()),
@@ -132,7 +137,11 @@ pub fn give_back<S: Alter>(
     book: &mut LastingBook<S>,
     today: u32,
     key: &BookKey,
-) -> Result<(), NoMemory> {
+) -> Result<(), NoMemory>
+    ensures given { OnOk result (keeping book.new today
+        ≡ given_back (Some key.now) (keeping book.old today)) }
+    ensures kept { OnErr result (keeping book.new today ≡ keeping book.old today) }
+{
     let request = book.hash(&key.bytes);
     let recent = match book.newest(&RequestDay {
         request,
@@ -159,7 +168,12 @@ pub fn take_in<S: Alter>(
     id: u64,
     item: DayItem,
     state: State,
-) -> Result<(), NoMemory> {
+) -> Result<(), NoMemory>
+    requires closed { is_open state ≡ false }
+    ensures taken { OnOk result ((today : ℕ) → keeping book.new today
+        ≡ put_noted id state (Some item) (keeping book.old today)) }
+    ensures kept { OnErr result ((today : ℕ) → keeping book.new today ≡ keeping book.old today) }
+{
     match book.restore(id, DayItem { state, ..item }) {
         Ok(()) => Ok(()),
         Err(_) => Err(NoMemory),

@@ -1,7 +1,11 @@
 //! The participant.
 
-ghost use Rattle.std.specs.Prelude.{◌≡◌, None};
-ghost use Rattle.sw_lasting.specs.Holding.{Holds, aborted, committed};
+ghost use Rattle.std.specs.Prelude.{◌≡◌, None, Some, IfOk, OnErr, OnOk};
+ghost use Rattle.iso_msg.specs.Messages.{PlainMessage};
+ghost use Rattle.sw_messages.specs.Requests.{class_of, request_in};
+ghost use Rattle.sw_lasting.specs.Holding.{Holds, HoldsByClass, aborted, asked_in, committed};
+ghost use Rattle.sw_lasting.specs.Holding.{committed_item, noted_on};
+ghost use Rattle.sw_lasting.specs.Noting.{day_in};
 ghost use Rattle.sw_lasting.specs.Keeping.{Keeping, keeping, shown_keeping};
 ghost use Rattle.sw_participant.specs.Outcomes.{RestoresNothing};
 ghost use Rattle.sw_parts.specs.Quiet.{PassesOver, SelectsNone};
@@ -64,7 +68,10 @@ impl<S: Alter + Drop, C: Clock + Drop> LastingLimits<S, C> {
     }
 
     // What the context of a recovered transaction asks to hold, on the day that is noted.
-    fn noted(&self, context: &Context) -> Result<Option<DayItem>, NoMemory> {
+    fn noted(&self, context: &Context) -> Result<Option<DayItem>, NoMemory>
+        ensures { IfOk result (λ item. item ≡ noted_on self.now.book.file.salt
+            (day_in context.now) (asked_in (request_in context.now))) }
+    {
         let Some(day) = day_in(context) else {
             return Ok(None);
         };
@@ -82,7 +89,14 @@ impl<S: Alter + Drop, C: Clock + Drop> LastingLimits<S, C> {
         id: u64,
         message: &Message,
         context: &mut Context,
-    ) -> Result<u8, NoMemory> {
+    ) -> Result<u8, NoMemory>
+        ensures held { IfOk result (λ byte. HoldsByClass (class_of message.now.mti) message.now id
+            (keeping self.old.book self.old.today) context.old byte
+            (keeping self.new.book self.new.today) context.new) }
+        ensures kept { OnErr result (keeping self.new.book self.new.today
+            ≡ keeping self.old.book self.old.today) }
+        ensures context_kept { OnErr result (context.new ≡ context.old) }
+    {
         match class_of(message.mti().digits()) {
             Some(Class::Authorization) => match asked(message) {
                 Some(item) => {
@@ -102,7 +116,13 @@ impl<S: Alter + Drop, C: Clock + Drop> LastingLimits<S, C> {
         id: u64,
         context: &Context,
         recovering: bool,
-    ) -> Result<(), NoMemory> {
+    ) -> Result<(), NoMemory>
+        ensures committed { OnOk result ((m : PlainMessage) → request_in context.now ≡ Some m
+            → keeping self.new.book self.new.today ≡ committed_item id recovering context.now m
+            (keeping self.old.book self.old.today)) }
+        ensures kept { OnErr result (keeping self.new.book self.new.today
+            ≡ keeping self.old.book self.old.today) }
+    {
         if recovering && self.book.item(id).is_none() {
             return match self.noted(context)? {
                 Some(item) => take_in(&mut self.book, id, item, State::Used),
