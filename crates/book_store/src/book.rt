@@ -64,7 +64,7 @@ impl<S: Alter + Drop> Drop for BookFile<S> {
 }
 
 impl<S: Alter> BookFile<S> {
-    /// What stands for a card or a request in this file.
+    /// The salted hash by which this file knows a card or a request.
     pub fn hash(&self, bytes: &[u8]) -> Hashed
         ensures { result.bytes ≡ sha256 (self.now.salt ++ bytes.now) }
     {

@@ -1,4 +1,4 @@
-//! What stands for a card or a request in the file.
+//! The hashes of cards and requests.
 
 ghost use Rattle.std.specs.Prelude.{◌≡◌, ◌++◌};
 ghost use Rattle.sha2.specs.Sha256.{sha256};

@@ -1,6 +1,6 @@
-//! Items, and what stands for their cards and requests.
+//! Items, and the hashes of their cards and requests.
 
-/// What stands for a card or a request in the file: the SHA-256 of the book's salt and of its bytes.
+/// A card or a request as the file has it: the SHA-256 of the book's salt and of its bytes.
 #[derive(Clone, Copy)]
 pub struct Hashed {
     /// The 32 bytes.

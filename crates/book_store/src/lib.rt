@@ -22,7 +22,7 @@
 //! shows the next items after an id, of days from one on; `has` tells whether an item has an id; `used` and `used_in` are the sums of a day, and
 //! `first_day` the first day from one on. These change nothing (`same`, `left`). Each refusal of the store
 //! makes the file fail, and then each call answers `Failed` and does nothing (`refused`, `err`, `failed`).
-//! `item_in` reads a row of `next` as an item, or names it; `hash` is what stands for a card or a request.
+//! `item_in` reads a row of `next` as an item, or names it; `hash` gives the hash of a card or a request.
 //! What the changes make of the sums is said by `sums_are_kept`.
 //!
 //! # Decisions

@@ -46,13 +46,18 @@
 //!   checked, or a name in `allow` that no rule has, and without a configuration file none
 //!   (`IsMistake`).
 //! - `check` that is done has taken a checked set-up, and prints nothing (`IsCheckDone`). Otherwise its
-//!   flow file or its configuration file is refused, or their set-up is not checked (`IsCheckFault`).
+//!   flow file, its configuration file or a profile file is refused, or the set-up is not checked
+//!   (`IsCheckFault`).
 //! - `recover` that is done has recovered the file's journal with one session, and printed its lines
 //!   (`Recovered`).
-//! - The faults of `run` have an order: flow file, configuration file, limit, mistakes, journal's file,
-//!   then the journal and the run (`IsRunFault`, `answer_by`). Nothing is written before the last. Once
-//!   both files are taken, a limit that is too great is `BadLimit` and nothing else, whatever the
-//!   journal. `recover` has the same order without a limit (`IsRecoverFault`, `recover_by`).
+//! - The faults of `run` have an order: flow file, configuration file, limit, the hosts' profile files,
+//!   mistakes, log, journal's file, then the journal and the run (`IsRunFault`, `answer_by`). Nothing is
+//!   written before the last. Once both files are taken, a limit that is too great is `BadLimit` and
+//!   nothing else, whatever the journal (`answer_by`). `recover` has the same order without a limit and
+//!   without profiles (`IsRecoverFault`, `recover_by`).
+//! - Of a run with a profile of the acquirer the same is said of what its streams are read and written
+//!   through (`AnsweredOver`, `IsRunFaultOver`), and its profile file is read before the limit is looked
+//!   at. What that has to do with the streams themselves is said by `run_recode` alone.
 //! - An error of the journal in a file has the path of that file, in `run`, `recover` and `journal`,
 //!   whether the options or the configuration name it (`RunError::over_file`, `IsServeError`,
 //!   `IsLookFault`). So has a refusal of the engine over such a journal. Out of memory is reported

@@ -118,7 +118,7 @@ impl<S: Alter> LastingBook<S> {
         self.reach
     }
 
-    /// What stands for a card or a request in memory and in the file.
+    /// The salted hash by which memory and file know a card or a request.
     pub fn hash(&self, bytes: &[u8]) -> [u8; 32]
         ensures { result ≡ sha256 (self.now.file.salt ++ bytes.now) }
     {

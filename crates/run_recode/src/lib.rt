@@ -17,10 +17,10 @@
 //! - `write` and `flush`: what was written inside, with what is held, is exactly what is written for the
 //!   messages of all bytes that were taken (`IsWrittenSo`). After a flush nothing is held. A message with a
 //!   fault is never an error, and the errors of the writer inside lose nothing.
-//! - Where no message was refused, nothing is told.
+//! - Where no message was refused, nothing is reported.
 //!
 //! What a message is recoded to, and what stands instead of one that has a fault, is said by `cli_recode`
-//! (`IsRecodedFrame`, `IsInstead`). The text of what is told is only tested.
+//! (`IsRecodedFrame`, `IsInstead`). The text of the reports is only tested.
 //!
 //! # Decisions
 //!
@@ -28,11 +28,11 @@
 //!   passes over, so that the messages after it keep their numbers there.
 //! - **A bad length becomes bytes that are no length of the switch either**, `----`, and a stream that ends
 //!   within a frame ends so too, after the digit `0`. So a run reports both as it does without a profile,
-//!   with its own status. What was found is told before.
+//!   with its own status. What was found is reported before.
 //! - **What is recoded is held until it is taken or flushed.** So an error of the writer inside comes before
 //!   bytes are taken, and the next call goes on where it stopped.
 //! - **Out of memory ends a stream**: messages would be missing. Each later call fails.
-//! - **A line is told in one write**, so that lines of several threads do not mix.
+//! - **A report is one line in one write**, so that lines of several threads do not mix.
 #![tactic(auto)]
 
 mod flow;

@@ -127,7 +127,7 @@ impl<R: Read + Drop, E: Write + Drop> RecodedReader<R, E> {
         RecodedReader { inner, side: None }
     }
 
-    /// A reader of `inner`, whose frames have this form. What is not recoded is told to `told`.
+    /// A reader of `inner`, whose frames have this form. Why a message is not recoded is written to `told`.
     pub fn new(
         alloc: Global,
         recoding: Arc<Recoding>,

@@ -90,7 +90,7 @@ impl<W: Write + Drop, E: Write + Drop> RecodedWriter<W, E> {
         RecodedWriter { inner, side: None }
     }
 
-    /// A writer to `inner`. What is not recoded is told to `told`.
+    /// A writer to `inner`. Why a message is not recoded is written to `told`.
     pub fn new(alloc: Global, recoding: Arc<Recoding>, inner: W, told: E) -> RecodedWriter<W, E>
         ensures inner { result.inner ≡ inner }
         ensures begun { IfSome result.side (IsWrittenSo own_form (arc_value recoding) [] []) }

@@ -292,6 +292,7 @@ impl Stations {
 // What a run takes besides the stations, as one value: if a station is not made, only one value is dropped.
 struct Over<S: Alter, R: Read, L: Link> {
     journal: Journal<S>,
+    // These two are what the stations are required to have been made with.
     limit: u64,
     stand_in: u64,
     input: Option<R>,
