@@ -1,0 +1,4 @@
+mod Freed
+mod Held
+mod Moving
+mod Preparing
