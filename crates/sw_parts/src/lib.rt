@@ -69,7 +69,7 @@ mod stand_in;
 
 pub use check::CheckFields;
 pub use forward::Forward;
-pub use limits::Limits;
+pub use limits::{Limits, asked, original};
 pub use link::Link;
 pub use memory::{Heap, Memory};
 pub use query::{QueryIssuer, hear};

@@ -59,7 +59,8 @@ fn key_of(card: Card, terminal: &[u8], stan: &[u8], sent: &[u8]) -> BookKey
     BookKey { bytes }
 }
 
-fn asked(request: &Message) -> Option<Item>
+/// What a request asks to hold: the amount of its card, under the key of its terminal, STAN, date and time.
+pub fn asked(request: &Message) -> Option<Item>
     ensures { result ≡ asked request.now }
 {
     let digits = request.get(2)?;
@@ -78,7 +79,8 @@ fn asked(request: &Message) -> Option<Item>
     })
 }
 
-fn original(request: &Message) -> Option<BookKey>
+/// The key that a reversal names.
+pub fn original(request: &Message) -> Option<BookKey>
     ensures { result ≡ original request.now }
 {
     let digits = request.get(2)?;

@@ -1,0 +1,205 @@
+//! The participant.
+
+ghost use Rattle.std.specs.Prelude.{◌≡◌, None, Some, IfOk, OnErr, OnOk};
+ghost use Rattle.iso_msg.specs.Messages.{PlainMessage};
+ghost use Rattle.sw_messages.specs.Requests.{class_of, request_in};
+ghost use Rattle.sw_lasting.specs.Holding.{Holds, HoldsByClass, aborted, asked_in, committed};
+ghost use Rattle.sw_lasting.specs.Holding.{committed_item, noted_on};
+ghost use Rattle.sw_lasting.specs.Noting.{day_in};
+ghost use Rattle.sw_lasting.specs.Keeping.{Keeping, keeping, shown_keeping};
+ghost use Rattle.sw_participant.specs.Outcomes.{RestoresNothing};
+ghost use Rattle.sw_parts.specs.Quiet.{PassesOver, SelectsNone};
+
+use crate::hold::{day_by, give_back, hold, item_on, spend, take_in};
+use crate::noting::day_in;
+use day_book::{DayItem, State};
+use iso_msg::Message;
+use lasting_book::LastingBook;
+use sqlite::Alter;
+use std::alloc::Global;
+use std::time::Clock;
+use sw_context::Context;
+use sw_messages::{Class, class_in, class_of, request_in};
+use sw_participant::{
+    AdviceResult, NO_JOIN, NoMemory, PREPARED, Participant, READONLY, Text,
+};
+use sw_parts::{asked, original};
+
+const PASSES: u8 = PREPARED | NO_JOIN | READONLY;
+
+/// Holds, spends and gives back the amounts of cards, by day, in a book that lasts.
+pub struct LastingLimits<S: Alter, C: Clock> {
+    alloc: Global,
+    book: LastingBook<S>,
+    // None: one day for the whole run.
+    clock: Option<C>,
+    today: u32,
+}
+
+impl<S: Alter + Drop, C: Clock + Drop> Drop for LastingLimits<S, C> {
+    fn drop(self) {
+        let LastingLimits {
+            alloc: _,
+            book: _,
+            clock: _,
+            today: _,
+        } = self;
+    }
+}
+
+impl<S: Alter + Drop, C: Clock + Drop> LastingLimits<S, C> {
+    /// A participant that keeps this book, from this day on. Without a clock this is the day of all
+    /// items.
+    pub fn new(
+        alloc: Global,
+        book: LastingBook<S>,
+        clock: Option<C>,
+        today: u32,
+    ) -> LastingLimits<S, C>
+        ensures { ⟦<LastingLimits<S, C> as Participant>⟧.object result
+            ≡ shown_keeping (keeping book today) }
+    {
+        LastingLimits {
+            alloc,
+            book,
+            clock,
+            today,
+        }
+    }
+
+    // What the context of a recovered transaction asks to hold, on the day that is noted.
+    fn noted(&self, context: &Context) -> Result<Option<DayItem>, NoMemory>
+        ensures { IfOk result (λ item. item ≡ noted_on self.now.book.file.salt
+            (day_in context.now) (asked_in (request_in context.now))) }
+    {
+        let Some(day) = day_in(context) else {
+            return Ok(None);
+        };
+        let Some(message) = request_in(self.alloc, context)? else {
+            return Ok(None);
+        };
+        match asked(&message) {
+            Some(item) => Ok(Some(item_on(&self.book, day, &item))),
+            None => Ok(None),
+        }
+    }
+
+    fn prepare_message(
+        &mut self,
+        id: u64,
+        message: &Message,
+        context: &mut Context,
+    ) -> Result<u8, NoMemory>
+        ensures held { IfOk result (λ byte. HoldsByClass (class_of message.now.mti) message.now id
+            (keeping self.old.book self.old.today) context.old byte
+            (keeping self.new.book self.new.today) context.new) }
+        ensures kept { OnErr result (keeping self.new.book self.new.today
+            ≡ keeping self.old.book self.old.today) }
+        ensures context_kept { OnErr result (context.new ≡ context.old) }
+    {
+        match class_of(message.mti().digits()) {
+            Some(Class::Authorization) => match asked(message) {
+                Some(item) => {
+                    let day = day_by(&self.clock, self.today);
+                    let item = item_on(&self.book, day, &item);
+                    hold(&mut self.book, &mut self.today, id, item, context)
+                }
+                None => Ok(PASSES),
+            },
+            Some(Class::Reversal) => Ok(PREPARED | READONLY),
+            _ => Ok(PASSES),
+        }
+    }
+
+    fn commit_item(
+        &mut self,
+        id: u64,
+        context: &Context,
+        recovering: bool,
+    ) -> Result<(), NoMemory>
+        ensures committed { OnOk result ((m : PlainMessage) → request_in context.now ≡ Some m
+            → keeping self.new.book self.new.today ≡ committed_item id recovering context.now m
+            (keeping self.old.book self.old.today)) }
+        ensures kept { OnErr result (keeping self.new.book self.new.today
+            ≡ keeping self.old.book self.old.today) }
+    {
+        if recovering && self.book.item(id).is_none() {
+            return match self.noted(context)? {
+                Some(item) => take_in(&mut self.book, id, item, State::Used),
+                None => Ok(()),
+            };
+        }
+        spend(&mut self.book, id)
+    }
+}
+
+impl<S: Alter + Drop, C: Clock + Drop> Participant for LastingLimits<S, C> {
+    ghost object = { λ limits. shown_keeping (keeping limits.book limits.today) };
+
+    ghost prepares = { λ id o x byte p y. (k : Keeping) × (after : Keeping)
+        × (o ≡ shown_keeping k) × (p ≡ shown_keeping after) × Holds id k x byte after y };
+
+    ghost prepares_for_abort = { λ id o x byte p y. PassesOver o x byte p y };
+
+    ghost selects = { λ id o x text p. SelectsNone o text p };
+
+    ghost commits = { λ id recovering o x advice p y. (k : Keeping)
+        × (o ≡ shown_keeping k) × (p ≡ shown_keeping (committed id recovering x k))
+        × (advice ≡ None) × (y ≡ x) };
+
+    ghost aborts = { λ id recovering o x advice p y. (k : Keeping)
+        × (o ≡ shown_keeping k) × (p ≡ shown_keeping (aborted id recovering x k))
+        × (advice ≡ None) × (y ≡ x) };
+
+    ghost recovers = { λ id commit o x p y. RestoresNothing o x p y };
+
+    fn prepare(&mut self, id: u64, context: &mut Context) -> Result<u8, NoMemory> {
+        let Some(message) = request_in(self.alloc, context)? else {
+            return Ok(PASSES);
+        };
+        self.prepare_message(id, &message, context)
+    }
+
+    fn select(&mut self, id: u64, context: &Context) -> Result<Text, NoMemory> {
+        Ok(Text::from_str(self.alloc, "")?)
+    }
+
+    fn commit(&mut self, id: u64, context: &mut Context, recovering: bool) -> AdviceResult {
+        match class_in(context) {
+            Some(Class::Authorization) => self.commit_item(id, context, recovering)?,
+            Some(Class::Reversal) => {
+                let key = match request_in(self.alloc, context)? {
+                    Some(message) => original(&message),
+                    None => None,
+                };
+                if let Some(key) = key {
+                    give_back(&mut self.book, self.today, &key)?;
+                }
+            }
+            _ => {}
+        }
+        Ok(None)
+    }
+
+    fn abort(&mut self, id: u64, context: &mut Context, recovering: bool) -> AdviceResult {
+        if !recovering || self.book.item(id).is_some() {
+            let _ = self.book.release(id);
+            return Ok(None);
+        }
+        let Some(item) = self.noted(context)? else {
+            return Ok(None);
+        };
+        if self.book.newest(&item.request_day()).is_none() {
+            take_in(&mut self.book, id, item, State::Reversed)?;
+        }
+        Ok(None)
+    }
+
+    fn prepare_for_abort(&mut self, id: u64, context: &mut Context) -> Result<u8, NoMemory> {
+        Ok(PASSES)
+    }
+
+    fn recover(&mut self, id: u64, context: &mut Context, commit: bool) -> Result<(), NoMemory> {
+        Ok(())
+    }
+}
