@@ -19,6 +19,7 @@ pub mod Errors
 pub mod Journals
 pub mod SetUps
 pub mod Checking
+pub mod Books
 pub mod Runs
 pub mod Steps
 pub mod Drawings

@@ -71,10 +71,10 @@
 //!   `IsFailed` does not say what its earlier lines wrote, and no contract knows the text of help.
 #![tactic(auto)]
 
+mod book;
 mod checking;
 mod error;
 mod flow_file;
-mod journal_file;
 mod journals;
 mod log_file;
 mod looking;

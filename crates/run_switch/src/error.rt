@@ -39,6 +39,11 @@ pub enum ServeError {
     /// The message of this number cannot be put in a context. No message causes this error.
     #[error("message {0}: {1}")]
     Request(u64, ContextError),
+    /// The journal would give ids that the limits book has already: its next one is `first`, and the book has all below
+    /// `first_id` or some of them.
+    #[error("the limits book is of another journal: it has transaction {}, and the journal's next one is {first}", \
+        .first_id.saturating_sub(1))]
+    OtherBook { first: u64, first_id: u64 },
     /// The engine cannot have this many sessions.
     #[error("--sessions: {0} is not 1 to 16")]
     BadSessions(usize),

@@ -150,11 +150,13 @@
 
 mod advices;
 mod alone;
+mod card_limits;
 mod defaults;
 mod edge;
 mod error;
 mod given;
 mod leg;
+mod named;
 mod passing;
 mod progress;
 mod record_log;
@@ -169,6 +171,7 @@ mod switch;
 mod unsuited;
 mod with_records;
 
+pub use card_limits::LastingCardLimits;
 pub use defaults::{DEFAULT_STAND_IN, default_advised, default_queried, default_routes};
 pub use edge::Edge;
 pub use error::{ServeError, check_end};

@@ -1,10 +1,10 @@
-//! The journal's file.
+//! The file of a new database.
 
 use std::alloc::Global;
 use std::fs::{self, File};
 use std::io::{self, Read, Write};
 
-/// The size of a page of a new journal, in bytes. Its rows are short, and a commit writes each page that it
+/// The size of a page of a new database, in bytes. The rows of a journal and of a limits book are short, and a commit writes each page that it
 /// changes whole, so with larger pages much would be written for little.
 const PAGE: u64 = 512;
 
@@ -42,11 +42,11 @@ fn write_empty(rt: &HostRuntime, path: &str) -> io::Result<()> {
     file.sync_all()
 }
 
-/// Makes a journal's file, without tables, at a path where nothing is. It is written beside that path and then
+/// Makes a database's file, without tables, at a path where nothing is. It is written beside that path and then
 /// linked there whole, so that no process finds a part of it, and a file that another process has made in the
 /// meantime is kept.
 ///
-/// If none is made, for example because `PATH-new` exists already (which stays as it is), the journal is made when
+/// If none is made, for example because `PATH-new` exists already (which stays as it is), the database is made when
 /// it is opened, with pages of the library's size.
 pub fn lay(rt: &HostRuntime, alloc: Global, path: &str) -> io::Result<()> {
     if path == ":memory:" || path.starts_with("file:") || fs::exists(rt, path)? {
