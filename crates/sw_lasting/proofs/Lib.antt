@@ -1,1 +1,2 @@
 mod Freed
+mod Held

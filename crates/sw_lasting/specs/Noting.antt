@@ -1,7 +1,6 @@
 -- The day of a reservation, noted in the context, so that recovery knows it.
 use Rattle.std.specs.Prelude.{ℕ, List, length, ◌==◌, if◌then◌else◌, codes, Option, Some, None, option_and_then}
-use Rattle.std.specs.Int.{to_be_bytes, from_be_bytes}
-use Rattle.std.specs.Prelude.{w32}
+use Rattle.std.specs.Int.{to_be_bytes, from_be_bytes, w32}
 use Rattle.sw_context.specs.Pairs.{Pairs, find, with_value}
 
 -- the name of the note

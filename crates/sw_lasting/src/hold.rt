@@ -11,13 +11,19 @@ ghost use Rattle.sw_lasting.specs.Keeping.{keeping};
 
 use crate::noting::LIMITS;
 use day_book::{DayBookError, DayItem, RequestDay, State};
-use lasting_book::LastingBook;
+use lasting_book::{LastingBook, LastingError};
 use sqlite::Alter;
 use std::time::Clock;
 use sw_book::{BookKey, Item};
 use sw_context::{Context, ContextError};
 use sw_messages::{ResponseCode, note_code};
 use sw_participant::{NO_JOIN, NoMemory, PREPARED};
+
+/// In how many ids items are forgotten once in the file, since it is a write that is synced.
+const FORGETS_EACH: u64 = 32;
+
+/// How many items are forgotten at once in the file: more than there are ids between.
+const MOST_FORGOTTEN: i64 = 64;
 
 /// The day by this clock, in days since 1970-01-01 UTC, or today if that is later or there is no clock.
 pub fn day_by<C: Clock>(clock: &Option<C>, today: u32) -> u32
@@ -86,6 +92,15 @@ pub fn hold<S: Alter>(
     }
 }
 
+// Forgets some items in the file, once in so many ids. A file that fails here answers at the next commit.
+fn forget_in_file<S: Alter>(book: &mut LastingBook<S>, id: u64)
+    ensures { (today : ℕ) → keeping book.new today ≡ keeping book.old today }
+{
+    if id % FORGETS_EACH == 0 {
+        let _ = book.forget_in_file(MOST_FORGOTTEN);
+    }
+}
+
 // Notes the day of an item that was just held, or frees it again.
 fn note_held<S: Alter>(
     book: &mut LastingBook<S>,
@@ -105,6 +120,7 @@ fn note_held<S: Alter>(
             book.advance(item.day.saturating_sub(1));
             let _ = book.forget();
             let _ = book.forget();
+            forget_in_file(book, id);
             *today = item.day;
             Ok(PREPARED)
         }
@@ -120,15 +136,15 @@ fn note_held<S: Alter>(
     }
 }
 
-/// Spends what is held. Where the file refuses, the call is not made.
-pub fn spend<S: Alter>(book: &mut LastingBook<S>, id: u64) -> Result<(), NoMemory>
+/// Spends what is held.
+pub fn spend<S: Alter>(book: &mut LastingBook<S>, id: u64) -> Result<(), LastingError>
     ensures spent { OnOk result ((today : ℕ) → keeping book.new today
         ≡ with_days (settled id book.old.days.items) (keeping book.old today)) }
     ensures kept { OnErr result ((today : ℕ) → keeping book.new today ≡ keeping book.old today) }
 {
     match book.settle(id) {
         Ok(_) => Ok(()),
-        Err(_) => Err(NoMemory),
+        Err(error) => Err(error),
     }
 }
 
@@ -137,7 +153,7 @@ pub fn give_back<S: Alter>(
     book: &mut LastingBook<S>,
     today: u32,
     key: &BookKey,
-) -> Result<(), NoMemory>
+) -> Result<(), LastingError>
     ensures given { OnOk result (keeping book.new today
         ≡ given_back (Some key.now) (keeping book.old today)) }
     ensures kept { OnErr result (keeping book.new today ≡ keeping book.old today) }
@@ -158,7 +174,7 @@ pub fn give_back<S: Alter>(
     };
     match book.reverse(id) {
         Ok(_) => Ok(()),
-        Err(_) => Err(NoMemory),
+        Err(error) => Err(error),
     }
 }
 
@@ -168,14 +184,11 @@ pub fn take_in<S: Alter>(
     id: u64,
     item: DayItem,
     state: State,
-) -> Result<(), NoMemory>
+) -> Result<(), LastingError>
     requires closed { is_open state ≡ false }
     ensures taken { OnOk result ((today : ℕ) → keeping book.new today
         ≡ put_noted id state (Some item) (keeping book.old today)) }
     ensures kept { OnErr result ((today : ℕ) → keeping book.new today ≡ keeping book.old today) }
 {
-    match book.restore(id, DayItem { state, ..item }) {
-        Ok(()) => Ok(()),
-        Err(_) => Err(NoMemory),
-    }
+    book.restore(id, DayItem { state, ..item })
 }

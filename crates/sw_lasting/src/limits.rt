@@ -4,19 +4,22 @@ ghost use Rattle.std.specs.Prelude.{◌≡◌, None, Some, IfOk, OnErr, OnOk};
 ghost use Rattle.iso_msg.specs.Messages.{PlainMessage};
 ghost use Rattle.sw_messages.specs.Requests.{class_of, request_in};
 ghost use Rattle.sw_lasting.specs.Holding.{Holds, HoldsByClass, aborted, asked_in, committed};
-ghost use Rattle.sw_lasting.specs.Holding.{committed_item, noted_on};
+ghost use Rattle.sw_lasting.specs.Holding.{committed_item, given_back, made_known, noted_on};
 ghost use Rattle.sw_lasting.specs.Noting.{day_in};
 ghost use Rattle.sw_lasting.specs.Keeping.{Keeping, keeping, shown_keeping};
 ghost use Rattle.sw_participant.specs.Outcomes.{RestoresNothing};
+ghost use Rattle.sw_parts.specs.Asking.{original};
 ghost use Rattle.sw_parts.specs.Quiet.{PassesOver, SelectsNone};
 
+use crate::fault::BookFault;
 use crate::hold::{day_by, give_back, hold, item_on, spend, take_in};
 use crate::noting::day_in;
 use day_book::{DayItem, State};
 use iso_msg::Message;
-use lasting_book::LastingBook;
+use lasting_book::{LastingBook, LastingError};
 use sqlite::Alter;
 use std::alloc::Global;
+use std::sync::Arc;
 use std::time::Clock;
 use sw_context::Context;
 use sw_messages::{Class, class_in, class_of, request_in};
@@ -34,6 +37,7 @@ pub struct LastingLimits<S: Alter, C: Clock> {
     // None: one day for the whole run.
     clock: Option<C>,
     today: u32,
+    fault: Arc<BookFault>,
 }
 
 impl<S: Alter + Drop, C: Clock + Drop> Drop for LastingLimits<S, C> {
@@ -43,18 +47,20 @@ impl<S: Alter + Drop, C: Clock + Drop> Drop for LastingLimits<S, C> {
             book: _,
             clock: _,
             today: _,
+            fault: _,
         } = self;
     }
 }
 
 impl<S: Alter + Drop, C: Clock + Drop> LastingLimits<S, C> {
-    /// A participant that keeps this book, from this day on. Without a clock this is the day of all
-    /// items.
+    /// A participant that keeps this book, from this day on, and notes why the book refuses a commit or
+    /// an abort. Without a clock this is the day of all items.
     pub fn new(
         alloc: Global,
         book: LastingBook<S>,
         clock: Option<C>,
         today: u32,
+        fault: Arc<BookFault>,
     ) -> LastingLimits<S, C>
         ensures { ⟦<LastingLimits<S, C> as Participant>⟧.object result
             ≡ shown_keeping (keeping book today) }
@@ -64,7 +70,14 @@ impl<S: Alter + Drop, C: Clock + Drop> LastingLimits<S, C> {
             book,
             clock,
             today,
+            fault,
         }
+    }
+
+    // What a participant answers where the book refuses.
+    fn refused(&self, error: LastingError) -> NoMemory {
+        self.fault.note(error);
+        NoMemory
     }
 
     // What the context of a recovered transaction asks to hold, on the day that is noted.
@@ -123,13 +136,58 @@ impl<S: Alter + Drop, C: Clock + Drop> LastingLimits<S, C> {
         ensures kept { OnErr result (keeping self.new.book self.new.today
             ≡ keeping self.old.book self.old.today) }
     {
-        if recovering && self.book.item(id).is_none() {
-            return match self.noted(context)? {
+        let done = if recovering && self.book.item(id).is_none() {
+            match self.noted(context)? {
                 Some(item) => take_in(&mut self.book, id, item, State::Used),
                 None => Ok(()),
-            };
+            }
+        } else {
+            spend(&mut self.book, id)
+        };
+        match done {
+            Ok(()) => Ok(()),
+            Err(error) => Err(self.refused(error)),
         }
-        spend(&mut self.book, id)
+    }
+
+    // Gives back what a reversal names.
+    fn give_back(&mut self, context: &Context) -> Result<(), NoMemory>
+        ensures given { OnOk result ((m : PlainMessage) → request_in context.now ≡ Some m
+            → keeping self.new.book self.new.today ≡ given_back (original m)
+            (keeping self.old.book self.old.today)) }
+        ensures kept { OnErr result (keeping self.new.book self.new.today
+            ≡ keeping self.old.book self.old.today) }
+    {
+        let Some(message) = request_in(self.alloc, context)? else {
+            return Ok(());
+        };
+        let Some(key) = original(&message) else {
+            return Ok(());
+        };
+        match give_back(&mut self.book, self.today, &key) {
+            Ok(()) => Ok(()),
+            Err(error) => Err(self.refused(error)),
+        }
+    }
+
+    // Makes the request of an aborted transaction known, unless its day knows it.
+    fn make_known(&mut self, id: u64, context: &Context) -> Result<(), NoMemory>
+        ensures known { OnOk result (keeping self.new.book self.new.today
+            ≡ made_known id (noted_on self.old.book.file.salt (day_in context.now)
+            (asked_in (request_in context.now))) (keeping self.old.book self.old.today)) }
+        ensures kept { OnErr result (keeping self.new.book self.new.today
+            ≡ keeping self.old.book self.old.today) }
+    {
+        let Some(item) = self.noted(context)? else {
+            return Ok(());
+        };
+        if self.book.newest(&item.request_day()).is_some() {
+            return Ok(());
+        }
+        match take_in(&mut self.book, id, item, State::Reversed) {
+            Ok(()) => Ok(()),
+            Err(error) => Err(self.refused(error)),
+        }
     }
 }
 
@@ -167,30 +225,17 @@ impl<S: Alter + Drop, C: Clock + Drop> Participant for LastingLimits<S, C> {
     fn commit(&mut self, id: u64, context: &mut Context, recovering: bool) -> AdviceResult {
         match class_in(context) {
             Some(Class::Authorization) => self.commit_item(id, context, recovering)?,
-            Some(Class::Reversal) => {
-                let key = match request_in(self.alloc, context)? {
-                    Some(message) => original(&message),
-                    None => None,
-                };
-                if let Some(key) = key {
-                    give_back(&mut self.book, self.today, &key)?;
-                }
-            }
+            Some(Class::Reversal) => self.give_back(context)?,
             _ => {}
         }
         Ok(None)
     }
 
     fn abort(&mut self, id: u64, context: &mut Context, recovering: bool) -> AdviceResult {
-        if !recovering || self.book.item(id).is_some() {
+        if recovering && self.book.item(id).is_none() {
+            self.make_known(id, context)?;
+        } else {
             let _ = self.book.release(id);
-            return Ok(None);
-        }
-        let Some(item) = self.noted(context)? else {
-            return Ok(None);
-        };
-        if self.book.newest(&item.request_day()).is_none() {
-            take_in(&mut self.book, id, item, State::Reversed)?;
         }
         Ok(None)
     }
