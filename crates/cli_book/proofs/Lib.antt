@@ -1,0 +1,4 @@
+mod FirstDays
+mod LineLemmas
+mod LookLemmas
+mod TotalLemmas
