@@ -30,6 +30,8 @@ unopened_cases : (P : RunError → Type 0) (c : Config) (e : RunError)
     → IsUnopenedBook c e → P e
 unopened_cases P c (error.Limits (book.File path cause)) limits memory h = limits (book.File path cause) (λ before. (h, refl))
 unopened_cases P c (error.Limits (book.Failed path cause)) limits memory h = absurd h
+unopened_cases P c (error.Limits (book.Uncopied path cause)) limits memory h = absurd h
+unopened_cases P c (error.Limits (book.Unshown path cause)) limits memory h = absurd h
 unopened_cases P c (error.Limits book.NoJournal) limits memory h = limits book.NoJournal (λ before. refl)
 unopened_cases P c (error.Limits book.NoBook) limits memory h = limits book.NoBook (λ before. refl)
 unopened_cases P c error.OutOfMemory limits memory h = memory
@@ -57,6 +59,8 @@ failure_cases : (P : RunError → Type 0) (c : Config) (e : RunError)
     → IsBookFailure c.limits.book e → P e
 failure_cases P c (error.Limits (book.Failed path cause)) limits h = limits (book.Failed path cause) (λ before after. h)
 failure_cases P c (error.Limits (book.File path cause)) limits h = absurd h
+failure_cases P c (error.Limits (book.Uncopied path cause)) limits h = absurd h
+failure_cases P c (error.Limits (book.Unshown path cause)) limits h = absurd h
 failure_cases P c (error.Limits book.NoJournal) limits h = absurd h
 failure_cases P c (error.Limits book.NoBook) limits h = absurd h
 failure_cases P c error.OutOfMemory limits h = absurd h

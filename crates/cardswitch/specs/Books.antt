@@ -23,5 +23,16 @@ IsBookFailure path _ = ⊥
 abbrev pub IsBookFault : Config → Option (List ℕ) → Option (List ℕ) → BookRefusal → Type 0
 IsBookFault c before after (book.File path cause) = (c.limits.book ≡ Some path) × (after ≡ before)
 IsBookFault c before after (book.Failed path cause) = c.limits.book ≡ Some path
+IsBookFault c before after (book.Uncopied path cause) = ⊥
+IsBookFault c before after (book.Unshown path cause) = ⊥
 IsBookFault c before after book.NoJournal = after ≡ before
 IsBookFault c before after book.NoBook = after ≡ before
+
+-- why the book in the file at a path is not shown
+abbrev pub IsBookLookFault : List ℕ → RunError → Type 0
+IsBookLookFault path (error.Limits (book.File p cause)) = p ≡ path
+IsBookLookFault path (error.Limits (book.Uncopied p cause)) = p ≡ path
+IsBookLookFault path (error.Limits (book.Unshown p cause)) = p ≡ path
+IsBookLookFault path (error.Write e) = ⊤
+IsBookLookFault path error.OutOfMemory = ⊤
+IsBookLookFault path _ = ⊥

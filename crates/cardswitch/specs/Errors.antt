@@ -30,8 +30,9 @@ run_status (Serve (serve.Journal cause)) = 3
 run_status (Journal path cause) = 3
 run_status (JournalFile path (fault.Read e)) = 1
 run_status (JournalFile path cause) = 3
-run_status (Limits (book.File path cause)) = 3
-run_status (Limits (book.Failed path cause)) = 3
+run_status (Limits book.NoJournal) = 1
+run_status (Limits book.NoBook) = 1
+run_status (Limits r) = 3
 run_status _ = 1
 
 -- an error of a run over the journal in the file at a path: where the journal refused, or the engine over it, with its path

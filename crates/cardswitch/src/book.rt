@@ -5,7 +5,9 @@ ghost use Rattle.run_setup.specs.Plans.{plain_setup};
 ghost use Rattle.cardswitch.specs.Books.{IsBookFailure, IsUnopenedBook};
 
 use crate::error::RunError;
+use cli_book::ShowError;
 use cli_config::{Config, Period};
+use journal_copy::CopyError;
 use lasting_book::LastingError;
 use run_files::{LimitsError, open_limits};
 use run_setup::with_book;
@@ -26,6 +28,12 @@ pub enum BookRefusal {
     /// The book in the file at the path refused while it was in use.
     #[error("{}: {cause}", .path.as_str())]
     Failed { path: Text, cause: LastingError },
+    /// The file at the path is not copied, so that the book could be shown.
+    #[error("{}: {cause}", .path.as_str())]
+    Uncopied { path: Text, cause: CopyError },
+    /// The book in the file at the path is not shown to its end.
+    #[error("{}: {cause}", .path.as_str())]
+    Unshown { path: Text, cause: ShowError },
     /// The configuration has a book, and the journal is in memory.
     #[error("limits: book: the journal is in memory; expected a journal in a file beside a limits book")]
     NoJournal,

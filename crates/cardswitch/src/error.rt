@@ -157,7 +157,8 @@ impl RunError {
                 ..
             } => 1,
             RunError::JournalFile { .. } => 3,
-            RunError::Limits(BookRefusal::File { .. } | BookRefusal::Failed { .. }) => 3,
+            RunError::Limits(BookRefusal::NoJournal | BookRefusal::NoBook) => 1,
+            RunError::Limits(_) => 3,
             _ => 1,
         }
     }

@@ -72,6 +72,7 @@
 #![tactic(auto)]
 
 mod book;
+mod book_look;
 mod checking;
 mod error;
 mod flow_file;

@@ -1,7 +1,7 @@
 //! The database files of a run: how a new one is made, and how a limits book is opened.
 //!
 //! [`open_limits`] opens the participant that keeps the limits of cards in a book that lasts. [`open_book`] opens the
-//! book's file alone. [`lay`] makes the file of a new database, and [`is_foreign`] looks whether a file is none; a
+//! book's file alone, and [`copied_book`] one of which a copy was made, so that a book that is in use can be looked at. [`lay`] makes the file of a new database, and [`is_foreign`] looks whether a file is none; a
 //! journal is opened with these two too.
 //!
 //! # What is proved
@@ -18,10 +18,12 @@
 //!   for by halves, with at most 63 questions to the file, since the file answers which items come after an id.
 #![tactic(auto)]
 
+mod copied;
 mod database_file;
 mod error;
 mod opening;
 
+pub use copied::copied_book;
 pub use database_file::{is_foreign, lay};
 pub use error::LimitsError;
 pub use opening::{OpenedLimits, open_book, open_limits};
