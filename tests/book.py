@@ -13,6 +13,7 @@ no card has more than its limit in a day. WORD picks the cases whose name has th
 import argparse
 import contextlib
 import errno
+import glob
 import hashlib
 import itertools
 import os
@@ -98,12 +99,20 @@ class Folder:
         wanted("it ended with", (came.returncode, came.stderr.decode()), (status, f"cardswitch: {said}\n"))
 
     def items(self):
-        """The items of the book, as rows, and its salt."""
+        """The items of the book, as rows, and its salt. A run that is killed or refused while it makes the book leaves none."""
+        try:
+            return self.read()
+        except sqlite3.DatabaseError as error:
+            if "not a database" in str(error) or "no such table" in str(error):
+                return [], b""
+            raise
+
+    def read(self):
         with kills.copied(self.path("limits.db")) as copy, contextlib.closing(sqlite3.connect(copy)) as database:
             wanted("the book's soundness", database.execute("PRAGMA integrity_check").fetchall(), [("ok",)])
             rows = database.execute("SELECT id, card, request, amount, day, reversed FROM item ORDER BY id").fetchall()
-            ((salt,),) = database.execute("SELECT bytes FROM salt").fetchall()
-        return rows, salt
+            salts = database.execute("SELECT bytes FROM salt").fetchall()
+        return rows, salts[0][0] if salts else b""
 
 
 def codes(out):
@@ -187,12 +196,13 @@ def no_book(folder):
 
 
 def not_a_book(folder):
-    """A text, and a journal."""
+    """A text, and another database."""
     with open(folder.path("limits.db"), "w", encoding="utf-8") as file:
         file.write("card 4000000000000002\n")
     folder.refused(status=3, said="limits.db: not a limits book of cardswitch")
     os.remove(folder.path("limits.db"))
-    os.rename(folder.path("journal.db"), folder.path("limits.db"))
+    with contextlib.closing(sqlite3.connect(folder.path("limits.db"))) as database:
+        database.execute("CREATE TABLE card (number TEXT)")
     folder.refused(status=3, said="limits.db: not a limits book of cardswitch")
 
 
@@ -209,7 +219,8 @@ def in_use(folder):
 def other_journal(folder):
     """A new journal would give ids that the book has."""
     wanted("the codes", folder.run([authorization(1, 1), authorization(2, 1)]), [APPROVED, APPROVED])
-    os.remove(folder.path("journal.db"))
+    for path in glob.glob(glob.escape(folder.path("journal.db")) + "*"):
+        os.remove(path)
     said = "the limits book is of another journal: it has transaction 2, and the journal's next one is 1"
     folder.refused(status=1, said=said)
 
@@ -265,6 +276,7 @@ def accounting(folder, made, answered, first_day):
         if answered:
             yield "the book of what was answered is gone"
         return
+    # (without a book no request has an item)
     rows, salt = folder.items()
     of_request = {request_hash(salt, stan, card): number for number, (stan, _, card) in enumerate(made)}
     counting, known = Counter(), set()
@@ -343,7 +355,7 @@ def refused_calls(given, chosen, count):
 def refusal_faults(folder, made, came, whole):
     """What is wrong with a run in which a call on the book's files failed, and with the next one."""
     said = came.stderr.decode("utf-8", "replace")
-    if came.status not in (0, 3) or (came.status == 3 and not said.startswith("cardswitch: limits.db: ")):
+    if came.status not in (0, 3) or (came.status == 3 and not said.splitlines()[-1].startswith("cardswitch: limits.db: ")):
         yield f"status {came.status}: {said}"
     if not whole.stdout.startswith(came.stdout):
         yield "its responses are no beginning of the undisturbed ones"

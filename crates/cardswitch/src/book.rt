@@ -87,7 +87,7 @@ pub fn over_book(
         return Ok(setup);
     };
     let period = config.limits.period.unwrap_or(Period::Day);
-    let fault = Arc::clone(fault);
+    let fault = Arc::clone(fault)?;
     match open_limits(alloc, rt, path.as_str(), setup.limit, period, fault) {
         Ok(opened) => Ok(with_book(setup, opened)),
         Err(LimitsError::OutOfMemory) => Err(RunError::OutOfMemory),

@@ -22,20 +22,11 @@ use sw_lasting::{BookFault, LastingLimits};
 const DAY: u64 = 86_400;
 
 /// The limits of cards over an opened book.
+#[derive(Drop)]
 pub struct OpenedLimits {
     pub limits: LastingLimits<FileStore<File>, HostRuntime>,
     /// The least id from 1 on that no item of the book reaches.
     pub first_id: u64,
-}
-
-// Written out, so that no caller proves again how its parts are dropped.
-impl Drop for OpenedLimits {
-    fn drop(self) {
-        let OpenedLimits {
-            limits: _,
-            first_id: _,
-        } = self;
-    }
 }
 
 // Why the library does not open a file: the system's own cause, if reading the file's beginning or making the file

@@ -13,9 +13,32 @@ pub fn with_book(setup: Setup<SwitchLink>, opened: OpenedLimits) -> Setup<Switch
     ensures { plain_setup result ≡ plain_setup setup }
 {
     let OpenedLimits { limits, first_id } = opened;
+    let Setup {
+        limit,
+        lasting: _,
+        first_id: _,
+        stand_in,
+        routes,
+        queried,
+        advised,
+        advices,
+        header,
+        sessions,
+        threads,
+        timed,
+    } = setup;
     Setup {
+        limit,
         lasting: Some(limits),
         first_id,
-        ..setup
+        stand_in,
+        routes,
+        queried,
+        advised,
+        advices,
+        header,
+        sessions,
+        threads,
+        timed,
     }
 }

@@ -394,7 +394,10 @@ impl<S: Alter + Drop, R: Read + Drop + Send + 'static, L: Link> Over<S, R, L> {
         };
         let first = plant.engine().opened().next_id;
         if first < first_id {
-            return Err(ServeError::OtherBook { first, first_id });
+            return Err(ServeError::OtherBook {
+                last: first_id - 1,
+                next: first,
+            });
         }
         let answered = Progress::begin(alloc, plant.engine(), first);
         let mut switch = Switch { plant, answered };
