@@ -1,6 +1,6 @@
 -- What was just held is noted, or freed again: a reservation.
 -- for: hold::hold
-use Rattle.std.proofs.Common.{◌≡◌, ℕ, ◌∷◌, [], List, nat_lt, Option, Some, None, Result, Ok, Err, IfOk, OnErr, inl, inr, refl, sym, ap, subst, ◌∙◌}
+use Rattle.std.proofs.Common.{◌≡◌, ℕ, ◌∷◌, [], nat_lt, None, Result, Ok, Err, IfOk, OnErr, inl, inr, sym, ap, subst, ◌∙◌}
 use Rattle.sw_context.specs.Pairs.{Pairs}
 use Rattle.day_book.specs.declared.error.DayBookError.TheVariants.{AmountTooLarge, Duplicate, OverLimit}
 use Rattle.day_book.specs.declared.item.DayItem.{DayItem}

@@ -1,9 +1,7 @@
 -- A reservation moves today on to its day.
 -- for: hold::move_on, hold::note_held
-use Rattle.std.proofs.Common.{◌≡◌, ◌≢◌, ℕ, ◌-◌, max, Option, Some, None, inl, refl, ap, ◌∙◌}
-use Rattle.sw_context.specs.Pairs.{Pairs, refusal as put_refusal}
-use Rattle.day_book.specs.declared.item.DayItem.{DayItem}
-use Rattle.day_book.specs.Items.{PlainDays, with_items}
+use Rattle.std.proofs.Common.{◌≡◌, ℕ, ◌-◌, max, ap, ◌∙◌}
+use Rattle.day_book.specs.Items.{with_items}
 use Rattle.day_book.specs.Changes.{forgotten}
 use Rattle.lasting_book.specs.Tied.{Lasting}
 use Rattle.sw_lasting.specs.Holding.{moved_on, with_days}

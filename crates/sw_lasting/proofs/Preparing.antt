@@ -1,6 +1,6 @@
 -- What a preparation of the request does is what `prepare` does.
 -- for: limits::LastingLimitsParticipant::prepare
-use Rattle.std.proofs.Common.{◌≡◌, ℕ, List, Option, None, Result, Ok, Err, IfOk, refl, subst}
+use Rattle.std.proofs.Common.{◌≡◌, ℕ, Option, None, Result, Ok, Err, IfOk, refl, subst}
 use Rattle.iso_msg.specs.Messages.{PlainMessage}
 use Rattle.sw_context.specs.Pairs.{Pairs}
 use Rattle.sw_messages.specs.Requests.{request_in}

@@ -1,5 +1,3 @@
-use Rattle.std.proofs.Common.{◌≡◌}
-use Rattle.lasting_book.specs.Tied.{Lasting}
 use Rattle.day_book.specs.Changes.{with_item}
 use Rattle.sw_lasting.specs.Keeping.{keeping}
 use Rattle.sw_lasting.proofs.Held.{held, keeping_with, unheld}
