@@ -131,7 +131,14 @@ impl<S: Alter + Drop, C: Clock + Drop> LastingLimits<S, C> {
                 Some(item) => {
                     let day = day_by(&self.clock, self.today);
                     let item = item_on(&self.book, day, &item);
-                    hold(&mut self.book, &mut self.today, id, item, context)
+                    hold(
+                        &mut self.book,
+                        &mut self.today,
+                        &self.fault,
+                        id,
+                        item,
+                        context,
+                    )
                 }
                 None => Ok(PASSES),
             },
