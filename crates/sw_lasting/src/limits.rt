@@ -30,6 +30,7 @@ use sw_messages::{Class, class_in, class_of, request_in};
 use sw_participant::{AdviceResult, NO_JOIN, NoMemory, PREPARED, Participant, READONLY, Text};
 use sw_parts::{asked, original};
 
+/// Ready without joining, and nothing to save.
 const PASSES: u8 = PREPARED | NO_JOIN | READONLY;
 
 /// Holds, spends and gives back the amounts of cards, by day, in a book that lasts.
@@ -42,6 +43,7 @@ pub struct LastingLimits<S: Alter, C: Clock> {
     fault: Arc<BookFault>,
 }
 
+// Written out, so that no caller proves again how its parts are dropped.
 impl<S: Alter + Drop, C: Clock + Drop> Drop for LastingLimits<S, C> {
     fn drop(self) {
         let LastingLimits {
@@ -55,8 +57,8 @@ impl<S: Alter + Drop, C: Clock + Drop> Drop for LastingLimits<S, C> {
 }
 
 impl<S: Alter + Drop, C: Clock + Drop> LastingLimits<S, C> {
-    /// A participant that keeps this book, from this day on, and notes why the book refuses a commit or
-    /// an abort. Without a clock this is the day of all items.
+    /// A participant that keeps this book, from this day on. Without a clock this is the day of all items.
+    /// Why the book refuses a commit or an abort, or fails while it forgets, is noted in `fault`.
     pub fn new(
         alloc: Global,
         book: LastingBook<S>,
