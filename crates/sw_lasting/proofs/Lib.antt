@@ -1,2 +1,4 @@
 mod Freed
 mod Held
+mod Moving
+mod Preparing

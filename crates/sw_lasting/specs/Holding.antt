@@ -1,18 +1,17 @@
 -- What the limits of a lasting book do: they hold the amount of an authorization for its card and day, spend it at
 -- commit, let it go at abort, and give back what a reversal names. After a restart they take the item of a transaction
 -- that they do not have from its context.
-use Rattle.std.specs.Prelude.{◌≡◌, ◌≢◌, ◌⊎◌, ℕ, ◌-◌, ◌≤◌, ◌++◌, max, Bool, true, false, ◌&&◌, List, Option, Some, None, is_none, is_some}
-use Rattle.std.specs.Prelude.{if◌then◌else◌, option_map}
+use Rattle.std.specs.Prelude.{◌≡◌, ◌≢◌, ◌⊎◌, ℕ, ◌-◌, ◌≤◌, ◌++◌, max, Bool, ◌&&◌, List, Option, Some, None, is_none, is_some}
+use Rattle.std.specs.Prelude.{if◌then◌else◌}
 use Rattle.sha2.specs.Sha256.{sha256}
 use Rattle.iso_msg.specs.Messages.{PlainMessage}
 use Rattle.sw_context.specs.Pairs.{Pairs, refusal as put_refusal}
 use Rattle.day_book.specs.declared.error.DayBookError.{DayBookError}
 use Rattle.day_book.specs.declared.error.DayBookError.TheVariants.{OverLimit, AmountTooLarge}
 use Rattle.day_book.specs.declared.item.DayItem.{DayItem}
-use Rattle.day_book.specs.declared.item.RequestDay.{RequestDay}
 use Rattle.day_book.specs.declared.item.State.{State}
 use Rattle.day_book.specs.declared.item.State.TheVariants.{Open, Reversed, Used}
-use Rattle.day_book.specs.Items.{Items, PlainDays, item_at, newest, request_day, with_items}
+use Rattle.day_book.specs.Items.{Items, item_at, newest, request_day, with_items}
 use Rattle.day_book.specs.Changes.{forgotten, in_state, released, reversed, settled, with_item}
 use Rattle.day_book.specs.Taking.{refusal}
 use Rattle.sw_base.specs.Refusals.{or_else}

@@ -6,9 +6,10 @@ ghost use Rattle.day_book.specs.Items.{is_open};
 ghost use Rattle.day_book.specs.Taking.{refusal};
 ghost use Rattle.day_book.specs.Changes.{released, settled};
 ghost use Rattle.sw_lasting.specs.Holding.{HeldBy, NotedBy, code_for, given_back, item_on};
-ghost use Rattle.sw_lasting.specs.Holding.{put_noted, with_days};
+ghost use Rattle.sw_lasting.specs.Holding.{made_known, moved_on, put_noted, with_days};
 ghost use Rattle.sw_lasting.specs.Keeping.{keeping};
 
+use crate::fault::BookFault;
 use crate::noting::LIMITS;
 use day_book::{DayBookError, DayItem, RequestDay, State};
 use lasting_book::{LastingBook, LastingError};
@@ -71,6 +72,7 @@ fn code_for(error: DayBookError) -> ResponseCode
 pub fn hold<S: Alter>(
     book: &mut LastingBook<S>,
     today: &mut u32,
+    fault: &BookFault,
     id: u64,
     item: DayItem,
     context: &mut Context,
@@ -83,7 +85,7 @@ pub fn hold<S: Alter>(
     ensures context_kept { OnErr result (context.new ≡ context.old) }
 {
     match book.reserve(id, item) {
-        Ok(()) => note_held(book, today, id, item, context),
+        Ok(()) => note_held(book, today, fault, id, item, context),
         Err(DayBookError::OutOfMemory) => Err(NoMemory),
         Err(error) => {
             note_code(context, code_for(error))?;
@@ -93,18 +95,39 @@ pub fn hold<S: Alter>(
 }
 
 // Forgets some items in the file, once in so many ids. A file that fails here answers at the next commit.
-fn forget_in_file<S: Alter>(book: &mut LastingBook<S>, id: u64)
+fn forget_in_file<S: Alter>(book: &mut LastingBook<S>, fault: &BookFault, id: u64)
     ensures { (today : ℕ) → keeping book.new today ≡ keeping book.old today }
 {
     if id % FORGETS_EACH == 0 {
-        let _ = book.forget_in_file(MOST_FORGOTTEN);
+        if let Err(error) = book.forget_in_file(MOST_FORGOTTEN) {
+            fault.note(error);
+        }
     }
+}
+
+// Moves today on to this day: those before the day before are out of reach, and some of their items are
+// forgotten.
+fn move_on<S: Alter>(
+    book: &mut LastingBook<S>,
+    today: &mut u32,
+    fault: &BookFault,
+    id: u64,
+    day: u32,
+)
+    ensures { keeping book.new today.new ≡ moved_on day (keeping book.old today.old) }
+{
+    book.advance(day.saturating_sub(1));
+    let _ = book.forget();
+    let _ = book.forget();
+    forget_in_file(book, fault, id);
+    *today = day;
 }
 
 // Notes the day of an item that was just held, or frees it again.
 fn note_held<S: Alter>(
     book: &mut LastingBook<S>,
     today: &mut u32,
+    fault: &BookFault,
     id: u64,
     item: DayItem,
     context: &mut Context,
@@ -117,21 +140,18 @@ fn note_held<S: Alter>(
 {
     match context.put(LIMITS, &item.day.to_be_bytes()) {
         Ok(()) => {
-            book.advance(item.day.saturating_sub(1));
-            let _ = book.forget();
-            let _ = book.forget();
-            forget_in_file(book, id);
-            *today = item.day;
+            move_on(book, today, fault, id, item.day);
             Ok(PREPARED)
         }
-        Err(ContextError::OutOfMemory) => {
+        Err(error) => {
             let _ = book.release(id);
-            Err(NoMemory)
-        }
-        Err(_) => {
-            let _ = book.release(id);
-            note_code(context, ResponseCode::SystemMalfunction)?;
-            Ok(NO_JOIN)
+            match error {
+                ContextError::OutOfMemory => Err(NoMemory),
+                _ => {
+                    note_code(context, ResponseCode::SystemMalfunction)?;
+                    Ok(NO_JOIN)
+                }
+            }
         }
     }
 }
@@ -191,4 +211,20 @@ pub fn take_in<S: Alter>(
     ensures kept { OnErr result ((today : ℕ) → keeping book.new today ≡ keeping book.old today) }
 {
     book.restore(id, DayItem { state, ..item })
+}
+
+/// Makes the request of an aborted transaction known, unless its day knows it.
+pub fn make_known<S: Alter>(
+    book: &mut LastingBook<S>,
+    id: u64,
+    item: DayItem,
+) -> Result<(), LastingError>
+    ensures known { OnOk result ((today : ℕ) → keeping book.new today
+        ≡ made_known id (Some item) (keeping book.old today)) }
+    ensures kept { OnErr result ((today : ℕ) → keeping book.new today ≡ keeping book.old today) }
+{
+    if book.newest(&item.request_day()).is_some() {
+        return Ok(());
+    }
+    take_in(book, id, item, State::Reversed)
 }

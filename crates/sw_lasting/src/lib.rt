@@ -33,8 +33,8 @@
 //! - **A file that refuses is told as `NoMemory`**, the only refusal of a participant. The program gets the
 //!   cause from the [`BookFault`] that it hands in.
 //! - **The file forgets once in 32 ids**, at most 64 items, since each time is a write that is synced. Memory
-//!   forgets at most two items at each reservation. A call of the file that fails there is not looked at: the
-//!   file then refuses the next commit.
+//!   forgets at most two items at each reservation. A file that fails there is noted, and refuses the next
+//!   commit.
 #![tactic(auto)]
 
 mod fault;

@@ -1,10 +1,14 @@
 //! The participant.
 
-ghost use Rattle.std.specs.Prelude.{◌≡◌, None, Some, IfOk, OnErr, OnOk};
+ghost use Rattle.std.specs.Prelude.{◌≡◌, ◌&&◌, is_none, None, Some, IfOk, OnErr, OnOk};
+ghost use Rattle.day_book.specs.Changes.{settled};
+ghost use Rattle.day_book.specs.Items.{item_at};
+ghost use Rattle.day_book.specs.declared.item.State.TheVariants.{Used};
 ghost use Rattle.iso_msg.specs.Messages.{PlainMessage};
 ghost use Rattle.sw_messages.specs.Requests.{class_of, request_in};
 ghost use Rattle.sw_lasting.specs.Holding.{Holds, HoldsByClass, aborted, asked_in, committed};
 ghost use Rattle.sw_lasting.specs.Holding.{committed_item, given_back, made_known, noted_on};
+ghost use Rattle.sw_lasting.specs.Holding.{put_noted, with_days};
 ghost use Rattle.sw_lasting.specs.Noting.{day_in};
 ghost use Rattle.sw_lasting.specs.Keeping.{Keeping, keeping, shown_keeping};
 ghost use Rattle.sw_participant.specs.Outcomes.{RestoresNothing};
@@ -12,7 +16,7 @@ ghost use Rattle.sw_parts.specs.Asking.{original};
 ghost use Rattle.sw_parts.specs.Quiet.{PassesOver, SelectsNone};
 
 use crate::fault::BookFault;
-use crate::hold::{day_by, give_back, hold, item_on, spend, take_in};
+use crate::hold::{day_by, give_back, hold, item_on, make_known, spend, take_in};
 use crate::noting::day_in;
 use day_book::{DayItem, State};
 use iso_msg::Message;
@@ -23,11 +27,10 @@ use std::sync::Arc;
 use std::time::Clock;
 use sw_context::Context;
 use sw_messages::{Class, class_in, class_of, request_in};
-use sw_participant::{
-    AdviceResult, NO_JOIN, NoMemory, PREPARED, Participant, READONLY, Text,
-};
+use sw_participant::{AdviceResult, NO_JOIN, NoMemory, PREPARED, Participant, READONLY, Text};
 use sw_parts::{asked, original};
 
+/// Ready without joining, and nothing to save.
 const PASSES: u8 = PREPARED | NO_JOIN | READONLY;
 
 /// Holds, spends and gives back the amounts of cards, by day, in a book that lasts.
@@ -40,6 +43,7 @@ pub struct LastingLimits<S: Alter, C: Clock> {
     fault: Arc<BookFault>,
 }
 
+// Written out, so that no caller proves again how its parts are dropped.
 impl<S: Alter + Drop, C: Clock + Drop> Drop for LastingLimits<S, C> {
     fn drop(self) {
         let LastingLimits {
@@ -53,8 +57,8 @@ impl<S: Alter + Drop, C: Clock + Drop> Drop for LastingLimits<S, C> {
 }
 
 impl<S: Alter + Drop, C: Clock + Drop> LastingLimits<S, C> {
-    /// A participant that keeps this book, from this day on, and notes why the book refuses a commit or
-    /// an abort. Without a clock this is the day of all items.
+    /// A participant that keeps this book, from this day on. Without a clock this is the day of all items.
+    /// Why the book refuses a commit or an abort, or fails while it forgets, is noted in `fault`.
     pub fn new(
         alloc: Global,
         book: LastingBook<S>,
@@ -72,6 +76,20 @@ impl<S: Alter + Drop, C: Clock + Drop> LastingLimits<S, C> {
             today,
             fault,
         }
+    }
+
+    /// Hands back the book.
+    pub fn into_book(self) -> LastingBook<S>
+        ensures { result ≡ self.book }
+    {
+        let LastingLimits {
+            alloc: _,
+            book,
+            clock: _,
+            today: _,
+            fault: _,
+        } = self;
+        book
     }
 
     // What a participant answers where the book refuses.
@@ -115,7 +133,14 @@ impl<S: Alter + Drop, C: Clock + Drop> LastingLimits<S, C> {
                 Some(item) => {
                     let day = day_by(&self.clock, self.today);
                     let item = item_on(&self.book, day, &item);
-                    hold(&mut self.book, &mut self.today, id, item, context)
+                    hold(
+                        &mut self.book,
+                        &mut self.today,
+                        &self.fault,
+                        id,
+                        item,
+                        context,
+                    )
                 }
                 None => Ok(PASSES),
             },
@@ -124,27 +149,56 @@ impl<S: Alter + Drop, C: Clock + Drop> LastingLimits<S, C> {
         }
     }
 
-    fn commit_item(
-        &mut self,
-        id: u64,
-        context: &Context,
-        recovering: bool,
-    ) -> Result<(), NoMemory>
-        ensures committed { OnOk result ((m : PlainMessage) → request_in context.now ≡ Some m
-            → keeping self.new.book self.new.today ≡ committed_item id recovering context.now m
+    // Whether the item of a recovered transaction is in its context alone.
+    fn is_lost(&self, id: u64, recovering: bool) -> bool
+        ensures { result ≡ (recovering && is_none (item_at id self.now.book.days.items)) }
+    {
+        recovering && self.book.item(id).is_none()
+    }
+
+    // Takes in the item of a recovered transaction, as spent.
+    fn take_in(&mut self, id: u64, context: &Context) -> Result<(), NoMemory>
+        ensures taken { OnOk result (keeping self.new.book self.new.today
+            ≡ put_noted id Used (noted_on self.old.book.file.salt (day_in context.now)
+            (asked_in (request_in context.now))) (keeping self.old.book self.old.today)) }
+        ensures kept { OnErr result (keeping self.new.book self.new.today
+            ≡ keeping self.old.book self.old.today) }
+    {
+        let Some(item) = self.noted(context)? else {
+            return Ok(());
+        };
+        match take_in(&mut self.book, id, item, State::Used) {
+            Ok(()) => Ok(()),
+            Err(error) => Err(self.refused(error)),
+        }
+    }
+
+    // Makes the request of an aborted transaction known, unless its day knows it.
+    fn make_known(&mut self, id: u64, context: &Context) -> Result<(), NoMemory>
+        ensures known { OnOk result (keeping self.new.book self.new.today
+            ≡ made_known id (noted_on self.old.book.file.salt (day_in context.now)
+            (asked_in (request_in context.now))) (keeping self.old.book self.old.today)) }
+        ensures kept { OnErr result (keeping self.new.book self.new.today
+            ≡ keeping self.old.book self.old.today) }
+    {
+        let Some(item) = self.noted(context)? else {
+            return Ok(());
+        };
+        match make_known(&mut self.book, id, item) {
+            Ok(()) => Ok(()),
+            Err(error) => Err(self.refused(error)),
+        }
+    }
+
+    // Spends what is held.
+    fn spend(&mut self, id: u64) -> Result<(), NoMemory>
+        ensures spent { OnOk result (keeping self.new.book self.new.today
+            ≡ with_days (settled id self.old.book.days.items)
             (keeping self.old.book self.old.today)) }
         ensures kept { OnErr result (keeping self.new.book self.new.today
             ≡ keeping self.old.book self.old.today) }
     {
-        let done = if recovering && self.book.item(id).is_none() {
-            match self.noted(context)? {
-                Some(item) => take_in(&mut self.book, id, item, State::Used),
-                None => Ok(()),
-            }
-        } else {
-            spend(&mut self.book, id)
-        };
-        match done {
+        match spend(&mut self.book, id) {
             Ok(()) => Ok(()),
             Err(error) => Err(self.refused(error)),
         }
@@ -170,24 +224,54 @@ impl<S: Alter + Drop, C: Clock + Drop> LastingLimits<S, C> {
         }
     }
 
-    // Makes the request of an aborted transaction known, unless its day knows it.
-    fn make_known(&mut self, id: u64, context: &Context) -> Result<(), NoMemory>
-        ensures known { OnOk result (keeping self.new.book self.new.today
-            ≡ made_known id (noted_on self.old.book.file.salt (day_in context.now)
-            (asked_in (request_in context.now))) (keeping self.old.book self.old.today)) }
+    fn commit_item(&mut self, id: u64, context: &Context, recovering: bool) -> Result<(), NoMemory>
+        ensures committed { OnOk result ((m : PlainMessage) → request_in context.now ≡ Some m
+            → keeping self.new.book self.new.today ≡ committed_item id recovering context.now m
+            (keeping self.old.book self.old.today)) }
         ensures kept { OnErr result (keeping self.new.book self.new.today
             ≡ keeping self.old.book self.old.today) }
     {
-        let Some(item) = self.noted(context)? else {
-            return Ok(());
-        };
-        if self.book.newest(&item.request_day()).is_some() {
-            return Ok(());
+        if self.is_lost(id, recovering) {
+            self.take_in(id, context)
+        } else {
+            self.spend(id)
         }
-        match take_in(&mut self.book, id, item, State::Reversed) {
-            Ok(()) => Ok(()),
-            Err(error) => Err(self.refused(error)),
+    }
+
+    fn commit_request(
+        &mut self,
+        id: u64,
+        context: &Context,
+        recovering: bool,
+    ) -> Result<(), NoMemory>
+        ensures committed { OnOk result (keeping self.new.book self.new.today
+            ≡ committed id recovering context.now (keeping self.old.book self.old.today)) }
+        ensures kept { OnErr result (keeping self.new.book self.new.today
+            ≡ keeping self.old.book self.old.today) }
+    {
+        match class_in(context) {
+            Some(Class::Authorization) => self.commit_item(id, context, recovering),
+            Some(Class::Reversal) => self.give_back(context),
+            _ => Ok(()),
         }
+    }
+
+    fn abort_request(
+        &mut self,
+        id: u64,
+        context: &Context,
+        recovering: bool,
+    ) -> Result<(), NoMemory>
+        ensures aborted { OnOk result (keeping self.new.book self.new.today
+            ≡ aborted id recovering context.now (keeping self.old.book self.old.today)) }
+        ensures kept { OnErr result (keeping self.new.book self.new.today
+            ≡ keeping self.old.book self.old.today) }
+    {
+        if self.is_lost(id, recovering) {
+            return self.make_known(id, context);
+        }
+        let _ = self.book.release(id);
+        Ok(())
     }
 }
 
@@ -212,10 +296,11 @@ impl<S: Alter + Drop, C: Clock + Drop> Participant for LastingLimits<S, C> {
     ghost recovers = { λ id commit o x p y. RestoresNothing o x p y };
 
     fn prepare(&mut self, id: u64, context: &mut Context) -> Result<u8, NoMemory> {
-        let Some(message) = request_in(self.alloc, context)? else {
-            return Ok(PASSES);
-        };
-        self.prepare_message(id, &message, context)
+        let request = request_in(self.alloc, context)?;
+        match request {
+            Some(message) => self.prepare_message(id, &message, context),
+            None => Ok(PASSES),
+        }
     }
 
     fn select(&mut self, id: u64, context: &Context) -> Result<Text, NoMemory> {
@@ -223,20 +308,12 @@ impl<S: Alter + Drop, C: Clock + Drop> Participant for LastingLimits<S, C> {
     }
 
     fn commit(&mut self, id: u64, context: &mut Context, recovering: bool) -> AdviceResult {
-        match class_in(context) {
-            Some(Class::Authorization) => self.commit_item(id, context, recovering)?,
-            Some(Class::Reversal) => self.give_back(context)?,
-            _ => {}
-        }
+        self.commit_request(id, context, recovering)?;
         Ok(None)
     }
 
     fn abort(&mut self, id: u64, context: &mut Context, recovering: bool) -> AdviceResult {
-        if recovering && self.book.item(id).is_none() {
-            self.make_known(id, context)?;
-        } else {
-            let _ = self.book.release(id);
-        }
+        self.abort_request(id, context, recovering)?;
         Ok(None)
     }
 
