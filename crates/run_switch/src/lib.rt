@@ -150,7 +150,6 @@
 
 mod advices;
 mod alone;
-mod card_limits;
 mod defaults;
 mod edge;
 mod error;
@@ -171,12 +170,11 @@ mod switch;
 mod unsuited;
 mod with_records;
 
-pub use card_limits::LastingCardLimits;
 pub use defaults::{DEFAULT_STAND_IN, default_advised, default_queried, default_routes};
 pub use edge::Edge;
 pub use error::{ServeError, check_end};
 pub use record_log::RecordLog;
 pub use reporter::{LineForm, Reporter, write_lines};
 pub use serving::run;
-pub use setup::{NamedLink, Setup, SwitchLink};
+pub use setup::{LastingCardLimits, NamedLink, Setup, SwitchLink};
 pub use stats::Stats;

@@ -28,7 +28,6 @@ ghost use Rattle.cli_io.specs.Written.{AppendsBeginning};
 ghost use Rattle.run_switch.specs.declared.reporter.LineForm.TheVariants.{Text};
 
 use crate::advices::{Advisor, send_advices};
-use crate::card_limits::limits_station;
 use crate::edge::Edge;
 use crate::error::ServeError;
 use crate::named::named;
@@ -55,9 +54,10 @@ use std::marker::Brand;
 use std::sync::Wait;
 use std::thread::Threads;
 use std::time::Clock;
+use sw_book::Book;
 use sw_issuers::Sender;
 use sw_lasting::LastingLimits;
-use sw_participant::{Bystander, Participant, Station, StationError, Unjoined};
+use sw_participant::{Bystander, NoMemory, Participant, Station, StationError, Unjoined};
 use sw_parts::{CheckFields, Forward, Limits, Link, QueryIssuer, Respond, Reverse, Route, StandIn};
 use sw_timed::Timed;
 use tx_engine::Engine;
@@ -610,10 +610,23 @@ pub fn run<
         threads,
         asks_hosts: asks_hosts(&queried),
     };
+    let Ok(book) = Book::new(alloc, limit) else {
+        unreachable!()
+    };
+    let limits = match lasting {
+        None => match Box::new(alloc, Limits::new(alloc, book)) {
+            Ok(limits) => named(alloc, "limits", limits),
+            Err(_) => Err(NoMemory),
+        },
+        Some(limits) => match Box::new(alloc, limits) {
+            Ok(limits) => named(alloc, "limits", limits),
+            Err(_) => Err(NoMemory),
+        },
+    };
     // (All at once: with a return for each, each would prove how everything else is dropped.)
     let (Ok(check), Ok(limits), Ok(route), Ok(reverse)) = (
         boxed(alloc, CheckFields::new(alloc)),
-        limits_station(alloc, limit, lasting),
+        limits,
         boxed(alloc, Route::new(alloc, routes)),
         Box::new(alloc, Reverse::new(alloc)),
     ) else {

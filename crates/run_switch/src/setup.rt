@@ -5,17 +5,22 @@ ghost use Rattle.sw_book.specs.Most.{max_limit};
 ghost use Rattle.sw_lasting.specs.Limit.{HasLimit};
 ghost use Rattle.run_switch.specs.Links.{query_name, sender_with};
 
-use crate::card_limits::LastingCardLimits;
 use run_responses::ResponseOrder;
+use sqlite_std_file::File;
+use sqlite_store::FileStore;
 use std::alloc::{AllocError, Global};
 use sw_hosts::IssuerLink;
 use sw_issuers::{GroupLink, Sender};
+use sw_lasting::LastingLimits;
 use sw_participant::{Sequence, Text};
 use sw_parts::{Link, Routing, copy_routes};
 
 /// The links of the switch. (Only `run` names this type: it makes boxes of the participants that ask over
 /// links, and a box of what is generic in its link gets no proof.)
 pub type SwitchLink = IssuerLink<HostRuntime>;
+
+/// Limits over a book that lasts.
+pub type LastingCardLimits = LastingLimits<FileStore<File>, HostRuntime>;
 
 /// A link to an issuer, with a name.
 #[derive(Drop)]
