@@ -1,9 +1,9 @@
 //! What a run has besides its flow and its journal.
 
-ghost use Rattle.std.specs.Prelude.{◌≡◌, ◌≤◌, IfOk, IfSome, string_bytes};
+ghost use Rattle.std.specs.Prelude.{◌≡◌, ◌≤◌, IfOk, string_bytes};
 ghost use Rattle.sw_book.specs.Most.{max_limit};
-ghost use Rattle.sw_lasting.specs.Limit.{HasLimit};
 ghost use Rattle.run_switch.specs.Links.{query_name, sender_with};
+ghost use Rattle.run_switch.specs.Stations.{limit_over};
 
 use run_responses::ResponseOrder;
 use sqlite_std_file::File;
@@ -64,7 +64,7 @@ pub struct Setup<L: Link> {
     // Such as a book may have.
     ghost within: { limit ≤ max_limit },
     // The book that lasts has the same.
-    ghost same: { IfSome lasting (HasLimit limit) },
+    ghost same: { limit_over limit lasting ≡ limit },
 }
 
 /// The name of the participant that asks over the link of this name.
