@@ -40,7 +40,7 @@ abbrev pub four_digits : ℕ → List ℕ
 four_digits n = (48 + n / 1000) ∷ (48 + n / 100 % 10) ∷ (48 + n / 10 % 10) ∷ (48 + n % 10) ∷ []
 
 -- YEAR-MONTH-DAY
-abbrev pub date_text : Date → List ℕ
+unfoldable pub date_text : Date → List ℕ
 date_text d = four_digits (unsigned_abs d.year) ++ codes "-" ++ two_digits d.month ++ codes "-" ++ two_digits d.day
 
 abbrev pub date_if : Option Date → List ℕ

@@ -50,6 +50,7 @@ fn four_digits(number: u16) -> [u8; 4]
 }
 
 // A date, as `2026-12-01`.
+#[tactic(auto, unfolding(crate::specs::Lines::date_text))]
 fn date_text(date: Date) -> [u8; 10]
     ensures { result ≡ spec.date_text date }
 {

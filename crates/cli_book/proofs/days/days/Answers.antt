@@ -27,7 +27,9 @@ loop-preserved g c =
           (record { salt = now.salt; clean = now.clean; same = λ clean. now.same clean now.ok });
       so_far = λ clean.
           let before = was_clean g.S.Store c.loop.file c.first_day.new.self now.clean clean in
-          let found = ap (λ (t : Tables). first_day c.loop.from t.lines) (sym (old.looked.same before)) ∙ sym (now.found clean) ∙ c.in-Some.is in
+          let from : to_z w64 c.loop.from-bits ≡ c.loop.from = grind (arith, ints, c.loop.from-is, c.loop.auto.from-fits) in
+          let found = ap (λ (t : Tables). first_day c.loop.from t.lines) (sym (old.looked.same before))
+          ∙ ap (λ (z : ℤ). first_day z (book g.S.Store c.loop.file).tables.lines) (sym from) ∙ sym (now.found clean) ∙ c.in-Some.is in
           let step : next ≡ day +ℤ pos 1 = grind (arith, ints, c.in-Some-checked_add.ensures) in
           subst (λ (from : ℤ). AreDaysBelow items from c.push.new.self.items) (sym step)
           (subst (AreDaysBelow items (day +ℤ pos 1)) (sym c.in_ok-push.ensures.items)
@@ -41,5 +43,7 @@ returns-in_default-clause-days g c = λ clean.
     let now = c.in_ok-day.ensures in
     let before = was_clean g.S.Store c.loop.file c.first_day.new.self now.clean clean in
     let none : c.in_ok-day.field-0 ≡ None = c.in_default.is in
-    let found = ap (λ (t : Tables). first_day c.loop.from t.lines) (sym (old.looked.same before)) ∙ sym (now.found clean) ∙ none in
+    let from : to_z w64 c.loop.from-bits ≡ c.loop.from = grind (arith, ints, c.loop.from-is, c.loop.auto.from-fits) in
+    let found = ap (λ (t : Tables). first_day c.loop.from t.lines) (sym (old.looked.same before))
+    ∙ ap (λ (z : ℤ). first_day z (book g.S.Store c.loop.file).tables.lines) (sym from) ∙ sym (now.found clean) ∙ none in
     all_found items c.loop.from c.loop.days.items (old.so_far before) found

@@ -1,5 +1,5 @@
-use Rattle.std.proofs.Common.{◌≡◌, ◌∙◌, List, ap, get_or, option_map, pos, rules, subst, sym, take, ◌+◌, of_z, to_z, w64}
-use Rattle.std.proofs.lemmas.Int.{SFits, to_z-of_z}
+use Rattle.std.proofs.Common.{◌≡◌, ◌∙◌, List, ap, get_or, option_map, pos, rules, subst, sym, take, ◌+◌, SFits, of_z, to_z, w64}
+use Rattle.std.proofs.lemmas.Int.{to_z-of_z}
 use Rattle.book_store.specs.Kept.{IsCleanBook, Tables, book}
 use Rattle.cli_book.specs.Cards.{known_by}
 use Rattle.cli_book.specs.Lines.{AreLines, used_by}
