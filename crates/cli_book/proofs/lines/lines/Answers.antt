@@ -18,27 +18,30 @@ loop-day-preserved g c =
     let day = to_z w64 (of_z w64 held) in
     let fits : SFits w64 held = search rules in
     let at : day ≡ held = to_z-of_z w64 held fits in
+    let used_fits : SFits w64 c.in_ok-used.used = search rules in
+    let used_kept = to_z-of_z w64 c.in_ok-used.used used_fits in
+    let has = sym c.has_line.ensures in
     let items = (book g.S.Store c.args.file.now).tables.lines in
     let old = c.loop-day.invariant in
     let now = c.in_ok-used.ensures in
     let looked = looked_on g.S.Store c.args.file.now c.loop-day.file c.used_on.new.file old.looked now.looked in
     let before = λ (clean : IsCleanBook (book g.S.Store c.used_on.new.file)). was_clean g.S.Store c.loop-day.file c.used_on.new.file now.looked.clean clean in
     let used = λ (clean : IsCleanBook (book g.S.Store c.used_on.new.file)).
-    now.used clean ∙ ap (λ (t : Tables). used_by card day t.lines) (old.looked.same (before clean)) in
+    used_kept ∙ now.used clean ∙ ap (λ (t : Tables). used_by card day t.lines) (old.looked.same (before clean)) in
     elim c.if-has_line.branch [
       | then-has_line+in_ok-push w ↦ record {
         looked = looked;
         so_far = λ clean.
             subst (λ (lines : List DayLine). AreLines card (take (i + 1) days) items lines)
             (sym (ap (λ v. v.items) w.lines-is ∙ w.in_ok-push.ensures.items))
-            (line_more card items days i (pos 0) c.loop-day.lines.items (record { day = day; date = w.date_of.result; used = c.in_ok-used.used })
-            c.loop-day-test.true at (used clean) (sym c.has_line.ensures ∙ w.if-has_line.true) w.date_of.ensures (old.so_far (before clean)));
+            (line_more card items days i (pos 0) c.loop-day.lines.items (record { day = day; date = w.date_of.result; used = to_z w64 (of_z w64 c.in_ok-used.used) })
+            c.loop-day-test.true at (used clean) (has ∙ w.if-has_line.true) w.date_of.ensures (old.so_far (before clean)));
       }
       | else-has_line w ↦ record {
         looked = looked;
         so_far = λ clean.
             subst (λ (lines : List DayLine). AreLines card (take (i + 1) days) items lines) (sym (ap (λ v. v.items) w.lines-is))
-            (no_line card items days i (pos 0) day c.in_ok-used.used c.loop-day.lines.items c.loop-day-test.true at (used clean)
-            (sym c.has_line.ensures ∙ w.if-has_line.false) (old.so_far (before clean)));
+            (no_line card items days i (pos 0) day (to_z w64 (of_z w64 c.in_ok-used.used)) c.loop-day.lines.items c.loop-day-test.true at (used clean)
+            (has ∙ w.if-has_line.false) (old.so_far (before clean)));
       }
     ]
