@@ -1,19 +1,22 @@
 -- The first day from one on, and the days found so far.
 -- for: days::days
 use Rattle.std.proofs.Common.{◌≡◌, ℤ, pos, ◌+ℤ◌, ◌<ℤ◌, ◌≤ℤ◌, Bool, true, false, ◌||◌, List, [], ◌∷◌, ◌++◌, Option, Some, None, option_map, slice_get, int_le}
-use Rattle.std.proofs.Common.{filter, refl, sym, ap, ◌∙◌, subst, arith, true≢false, if◌then◌else◌, cond, MatchOrdering, Ordering, Less, Equal, Greater, is_gt}
+use Rattle.std.proofs.Common.{filter, refl, sym, ap, ◌∙◌, subst, arith, true≢false, if◌then◌else◌, cond, Ordering, Less, Equal, Greater, is_eq, is_gt}
 use Rattle.std.specs.Cmp.{int_ranks}
 use Rattle.std.specs.List.{AllByRecursion, list_any}
-use Rattle.std.specs.Ordering.{int_cmp, int_eq, ordering_then}
+use Rattle.std.specs.Ordering.{MatchOrdering, int_cmp, int_eq, ordering_then}
+use Rattle.std.proofs.lemmas.Cmp.{int_cmp_total, tied_itself}
 use Rattle.std.proofs.lemmas.Int.{ints}
 use Rattle.std.proofs.lemmas.List.Folds.{list_any-append}
-use Rattle.store_base.proofs.RowidLemmas.{same_int}
 use Rattle.sqlite_trees.specs.Tree.{IsAscending}
 use Rattle.sqlite_keyed.specs.Lists.{insert_sorted, sort_by}
 use Rattle.sqlite_keyed.proofs.ListLemmas.{all-append, all_both, all_of, all_weaker, ascending-append}
 use Rattle.book_store.specs.Lines.{Line}
 use Rattle.book_store.specs.Queries.{day_cmp, days_from, first_day}
 use Rattle.cli_book.specs.Days.{AreDays, has_day, is_among, least}
+
+same_int : (a : ℤ) → int_eq a a ≡ true
+same_int a = ap is_eq (tied_itself int_cmp_total a)
 
 later : (l x : Line) → is_gt (day_cmp l x) ≡ true → x.day ≤ℤ l.day
 later l x h = go (int_cmp l.day x.day) (int_ranks l.day x.day) h
@@ -58,8 +61,7 @@ module _ (from : ℤ) (l : Line) (ls : List Line) where
       let late : from ≤ℤ l.day = grind (arith, ints, is) in (
         late,
         or_left (has_day l.day l) _ (same_int l.day),
-        (λ _. omega (arith, ints)),
-        all_weaker _ (λ (m : Line). from ≤ℤ m.day → l.day ≤ℤ m.day) (λ m early h. absurd (omega (arith, ints, early, h))) ls rest,
+        ((λ _. omega (arith, ints)), all_weaker _ (λ (m : Line). from ≤ℤ m.day → l.day ≤ℤ m.day) (λ m early h. absurd (omega (arith, ints, early, h))) ls rest),
       )
   inserted is (x ∷ xs) rest = by (is_gt (day_cmp l x)) refl
     where
@@ -70,20 +72,23 @@ module _ (from : ℤ) (l : Line) (ls : List Line) where
           let before = sooner l x le in (
             late,
             or_left (has_day l.day l) _ (same_int l.day),
-            (λ _. omega (arith, ints)),
-            all_weaker _ (λ (m : Line). from ≤ℤ m.day → l.day ≤ℤ m.day) (λ m h at. let more = h at in omega (arith, ints, before, more)) ls rest.2,
+            (
+              (λ _. omega (arith, ints)),
+              all_weaker _ (λ (m : Line). from ≤ℤ m.day → l.day ≤ℤ m.day) (λ m h at. let more = h at in omega (arith, ints, before, more)) ls rest.2,
+            ),
           )
 
 is_first : (from : ℤ) (items : List Line) → IsFirst from items (days_from from items)
 is_first from [] = tt
-is_first from (l ∷ ls) = by (int_le from l.day) refl
+is_first from (l ∷ ls) = by (int_le from l.day) refl (is_first from ls)
   where
     rest : List Line
     rest = filter (λ (m : Line). int_le from m.day) ls
 
-    by : (b : Bool) → int_le from l.day ≡ b → IsFirst from (l ∷ ls) (sort_by day_cmp (cond b (l ∷ rest) rest))
-    by true is = inserted from l ls is (days_from from ls) (is_first from ls)
-    by false is = passed from l ls is (days_from from ls) (is_first from ls)
+    by : (b : Bool) → int_le from l.day ≡ b → IsFirst from ls (days_from from ls)
+        → IsFirst from (l ∷ ls) (sort_by day_cmp (cond b (l ∷ rest) rest))
+    by true is first = inserted from l ls is (days_from from ls) first
+    by false is first = passed from l ls is (days_from from ls) first
 
 -- what is known of the first day
 abbrev IsFirstDay : ℤ → List Line → Option ℤ → Type 0
@@ -131,14 +136,14 @@ one_more items from d days so_far is =
           (all_weaker _ (λ (e : ℤ). AllByRecursion (λ b. e <ℤ b) (d ∷ [])) (λ e h. (h, tt)) days earlier);
       had = all-append (λ day. list_any (has_day day) items ≡ true) days (d ∷ []) so_far.had (found.1, tt);
       whole = all_both (λ (l : Line). least ≤ℤ l.day → l.day <ℤ from → is_among days l.day ≡ true) (λ (l : Line). from ≤ℤ l.day → d ≤ℤ l.day)
-          (λ (l : Line). least ≤ℤ l.day → l.day <ℤ d +ℤ pos 1 → is_among (days ++ d ∷ []) l.day ≡ true)
+          (λ (l : Line). least ≤ℤ l.day → l.day <ℤ (d +ℤ pos 1) → is_among (days ++ d ∷ []) l.day ≡ true)
           (λ l old new big small. by l old new big small (int_le from l.day) refl) items so_far.whole found.2;
-      below = all-append (λ (e : ℤ). e <ℤ d +ℤ pos 1) days (d ∷ [])
-          (all_weaker _ (λ (e : ℤ). e <ℤ d +ℤ pos 1) (λ e h. omega (arith, ints, h)) days earlier) (omega (arith, ints), tt);
+      below = all-append (λ (e : ℤ). e <ℤ (d +ℤ pos 1)) days (d ∷ [])
+          (all_weaker _ (λ (e : ℤ). e <ℤ (d +ℤ pos 1)) (λ e h. omega (arith, ints, h)) days earlier) (omega (arith, ints), tt);
     }
   where
     by : (l : Line) → (least ≤ℤ l.day → l.day <ℤ from → is_among days l.day ≡ true) → (from ≤ℤ l.day → d ≤ℤ l.day) → least ≤ℤ l.day
-        → l.day <ℤ d +ℤ pos 1 → (b : Bool) → int_le from l.day ≡ b → is_among (days ++ d ∷ []) l.day ≡ true
+        → l.day <ℤ (d +ℤ pos 1) → (b : Bool) → int_le from l.day ≡ b → is_among (days ++ d ∷ []) l.day ≡ true
     by l old new big small true at =
         let from_on : from ≤ℤ l.day = grind (arith, ints, at) in
         let more = new from_on in

@@ -1,6 +1,6 @@
 -- Calls that only read, one after the other.
 -- for: days::days, lines::lines, show::book_text
-use Rattle.std.proofs.Common.{◌≡◌, ◌∙◌, ◌≤◌, arith, refl}
+use Rattle.std.proofs.Common.{◌∙◌, ◌≤◌, arith, refl}
 use Rattle.std.proofs.Math.Nat.{le_refl, le_trans}
 use Rattle.sqlite_trees.specs.declared.store.Store.{Ghosts}
 use Rattle.sqlite_trees.specs.View.{doubt}

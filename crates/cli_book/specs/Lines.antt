@@ -40,17 +40,21 @@ abbrev pub four_digits : ℕ → List ℕ
 four_digits n = (48 + n / 1000) ∷ (48 + n / 100 % 10) ∷ (48 + n / 10 % 10) ∷ (48 + n % 10) ∷ []
 
 -- YEAR-MONTH-DAY
-abbrev pub date_text : Date → List ℕ
-date_text d = four_digits (unsigned_abs d.year) ++ codes "-" ++ two_digits d.month ++ codes "-" ++ two_digits d.day ++ codes " "
+unfoldable pub date_text : Date → List ℕ
+date_text d = four_digits (unsigned_abs d.year) ++ codes "-" ++ two_digits d.month ++ codes "-" ++ two_digits d.day
 
 abbrev pub date_if : Option Date → List ℕ
-date_if (Some date) = date_text date
+date_if (Some date) = date_text date ++ codes " "
 date_if None = []
+
+-- `day 20788: used 12345`
+abbrev pub day_text : ℤ → ℤ → List ℕ
+day_text day used = codes "day " ++ (signed_decimal day ++ (codes ": used " ++ (signed_decimal used ++ codes "\n")))
 
 -- `2026-12-01 day 20788: used 12345`
 abbrev pub line_text : DayLine → List ℕ
 line_text l =
-    date_if l.date ++ codes "day " ++ signed_decimal l.day ++ codes ": used " ++ signed_decimal l.used ++ codes "\n"
+    date_if l.date ++ day_text l.day l.used
 
 abbrev pub total_text : ℤ → List ℕ
 total_text total = codes "total used " ++ signed_decimal total ++ codes "\n"

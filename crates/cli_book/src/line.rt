@@ -49,16 +49,26 @@ fn four_digits(number: u16) -> [u8; 4]
     ]
 }
 
-// Adds a date, as `2026-12-01 `.
-fn push_date(text: &mut Vec<u8>, date: Date) -> Result<(), AllocError>
-    ensures { OnOk result (text.new.items ≡ text.old.items ++ spec.date_text date) }
+// A date, as `2026-12-01`.
+#[tactic(auto, unfolding(crate::specs::Lines::date_text))]
+fn date_text(date: Date) -> [u8; 10]
+    ensures { result ≡ spec.date_text date }
 {
     let year = four_digits(date.year.unsigned_abs());
     let month = two_digits(date.month);
     let day = two_digits(date.day);
-    text.extend_from_slice(&[
-        year[0], year[1], year[2], year[3], b'-', month[0], month[1], b'-', day[0], day[1], b' ',
-    ])
+    [
+        year[0], year[1], year[2], year[3], b'-', month[0], month[1], b'-', day[0], day[1],
+    ]
+}
+
+fn push_date(text: &mut Vec<u8>, date: Date) -> Result<(), AllocError>
+    ensures { OnOk result (text.new.items
+        ≡ text.old.items ++ (spec.date_text date ++ codes " ")) }
+{
+    let date = date_text(date);
+    text.extend_from_slice(date.as_slice())?;
+    text.extend_from_slice(b" ")
 }
 
 // Adds a date, if there is one.
@@ -79,14 +89,21 @@ pub fn push_number(text: &mut Vec<u8>, number: i64) -> Result<(), AllocError>
     text.extend_from_slice(buffer.format(number).as_bytes())
 }
 
+// Adds what the line of a day has after its date.
+fn push_day(text: &mut Vec<u8>, day: i64, used: i64) -> Result<(), AllocError>
+    ensures { OnOk result (text.new.items ≡ text.old.items ++ spec.day_text day used) }
+{
+    text.extend_from_slice(b"day ")?;
+    push_number(text, day)?;
+    text.extend_from_slice(b": used ")?;
+    push_number(text, used)?;
+    text.extend_from_slice(b"\n")
+}
+
 /// Adds the line of a day.
 pub fn push_line(text: &mut Vec<u8>, line: DayLine) -> Result<(), AllocError>
     ensures { OnOk result (text.new.items ≡ text.old.items ++ spec.line_text line) }
 {
     push_date_if(text, line.date)?;
-    text.extend_from_slice(b"day ")?;
-    push_number(text, line.day)?;
-    text.extend_from_slice(b": used ")?;
-    push_number(text, line.used)?;
-    text.extend_from_slice(b"\n")
+    push_day(text, line.day, line.used)
 }
