@@ -6,6 +6,7 @@ ghost use Rattle.sw_lasting.specs.Limit.{HasLimit};
 use crate::database_file::{is_foreign, lay};
 use crate::error::LimitsError;
 use book_store::BookFile;
+use card_limits::CardLimits;
 use cli_config::Period;
 use lasting_book::LastingBook;
 use sqlite::{Connection, Error, ErrorCode};
@@ -24,7 +25,7 @@ const DAY: u64 = 86_400;
 /// The limits of cards over an opened book.
 #[derive(Drop)]
 pub struct OpenedLimits {
-    pub limits: LastingLimits<FileStore<File>, HostRuntime>,
+    pub limits: CardLimits,
     /// The least id from 1 on that no item of the book reaches.
     pub first_id: u64,
 }
@@ -116,7 +117,7 @@ pub fn open_limits(
     period: Period,
     fault: Arc<BookFault>,
 ) -> Result<OpenedLimits, LimitsError>
-    ensures limit { IfOk result (λ opened. HasLimit limit opened.limits) }
+    ensures limit { IfOk result (λ opened. HasLimit limit opened.limits.limits) }
 {
     let mut file = open_book(alloc, rt, path)?;
     let first_id = first_id(&mut file)?;
@@ -126,7 +127,7 @@ pub fn open_limits(
     };
     match LastingBook::open(alloc, limit, file, today.saturating_sub(1)) {
         Ok(book) => Ok(OpenedLimits {
-            limits: LastingLimits::new(alloc, book, clock, today, fault),
+            limits: CardLimits::new(LastingLimits::new(alloc, book, clock, today, fault)),
             first_id,
         }),
         Err((error, _)) => Err(LimitsError::from(error)),

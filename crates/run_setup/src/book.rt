@@ -9,7 +9,7 @@ use run_switch::{Setup, SwitchLink};
 
 /// This set-up with the limits of an opened book.
 pub fn with_book(setup: Setup<SwitchLink>, opened: OpenedLimits) -> Setup<SwitchLink>
-    requires limit { HasLimit setup.limit opened.limits }
+    requires limit { HasLimit setup.limit opened.limits.limits }
     ensures { plain_setup result ≡ plain_setup setup }
 {
     let OpenedLimits { limits, first_id } = opened;

@@ -3,8 +3,8 @@
 -- - *Has participant* (`Stations.antt`): a station has the participant of this name, which keeps its relation and shows this
 --   object at first. *Has limits*: the same of the limits of cards, which may be kept in a book that lasts. *Is query*: a station of a participant that asks over a link.
 use Rattle.std.specs.Prelude.{◌≡◌, ◌⊎◌, ℕ, List, [], Option, Some, None, codes}
+use Rattle.card_limits.specs.declared.CardLimits.{CardLimits}
 use Rattle.sw_lasting.specs.Keeping.{Keeping, shown_keeping}
-use Rattle.sw_lasting.specs.declared.limits.LastingLimits.{LastingLimits}
 use Rattle.sw_parts.specs.ShownBooks.{shown_book}
 use Rattle.sw_participant.specs.declared.participant.Participant.{Ghosts}
 use Rattle.sw_participant.specs.declared.station.Station.{Station}
@@ -14,9 +14,9 @@ use Rattle.sw_participant.specs.Stations.{name_of, object_of, rule_of}
 use Rattle.run_switch.specs.Links.{query_name}
 
 -- what a card may spend by the limits of a book that lasts; without one it is this limit
-abbrev pub limit_over : {S C : Type 0} → ℕ → Option (LastingLimits S C) → ℕ
+abbrev pub limit_over : ℕ → Option CardLimits → ℕ
 limit_over limit None = limit
-limit_over limit (Some limits) = limits.book.days.limit
+limit_over limit (Some card) = card.limits.book.days.limit
 
 -- `members` is what each type of participant states (in a clause: `Participant-dyn`)
 module _ {I : Type 0} {D : I → Type 0} (members : (z : (k : I) × D k) → Ghosts (D z.0)) where

@@ -176,5 +176,5 @@ pub use error::{ServeError, check_end};
 pub use record_log::RecordLog;
 pub use reporter::{LineForm, Reporter, write_lines};
 pub use serving::run;
-pub use setup::{LastingCardLimits, NamedLink, Setup, SwitchLink};
+pub use setup::{NamedLink, Setup, SwitchLink};
 pub use stats::Stats;

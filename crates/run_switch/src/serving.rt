@@ -39,6 +39,7 @@ use crate::stream::answer_input;
 use crate::streaming::{Stream, answer_stream};
 use crate::switch::Switch;
 use crate::unsuited::cause_of;
+use card_limits::CardLimits;
 use cli_io::IoError;
 use flow_asm::Code;
 use journal_store::Journal;
@@ -46,8 +47,6 @@ use run_input::StreamEnd;
 use run_reports::Recovered;
 use run_responses::ResponseOrder;
 use sqlite::Alter;
-use sqlite_std_file::File;
-use sqlite_store::FileStore;
 use std::alloc::{AllocError, Global};
 use std::io::{Read, Write};
 use std::marker::Brand;
@@ -56,7 +55,6 @@ use std::thread::Threads;
 use std::time::Clock;
 use sw_book::Book;
 use sw_issuers::Sender;
-use sw_lasting::LastingLimits;
 use sw_participant::{Bystander, NoMemory, Participant, Station, StationError, Unjoined};
 use sw_parts::{CheckFields, Forward, Limits, Link, QueryIssuer, Respond, Reverse, Route, StandIn};
 use sw_timed::Timed;
@@ -340,8 +338,7 @@ impl<S: Alter + Drop, R: Read + Drop + Send + 'static, L: Link> Over<S, R, L> {
         requires check { HasParticipant Participant-dyn (codes "check")
             (PerformsCall ⟦<Bystander<CheckFields> as Participant>⟧) [] stations.check }
         requires limits { HasLimits Participant-dyn (PerformsCall ⟦<Limits as Participant>⟧)
-            (PerformsCall ⟦<LastingLimits<FileStore<File>, HostRuntime> as Participant>⟧)
-            self.limit stations.limits }
+            (PerformsCall ⟦<CardLimits as Participant>⟧) self.limit stations.limits }
         requires route { HasParticipant Participant-dyn (codes "route")
             (PerformsCall ⟦<Bystander<Route> as Participant>⟧)
             (shown_routes self.sender.routes) stations.route }

@@ -5,22 +5,17 @@ ghost use Rattle.sw_book.specs.Most.{max_limit};
 ghost use Rattle.run_switch.specs.Links.{query_name, sender_with};
 ghost use Rattle.run_switch.specs.Stations.{limit_over};
 
+use card_limits::CardLimits;
 use run_responses::ResponseOrder;
-use sqlite_std_file::File;
-use sqlite_store::FileStore;
 use std::alloc::{AllocError, Global};
 use sw_hosts::IssuerLink;
 use sw_issuers::{GroupLink, Sender};
-use sw_lasting::LastingLimits;
 use sw_participant::{Sequence, Text};
 use sw_parts::{Link, Routing, copy_routes};
 
 /// The links of the switch. (Only `run` names this type: it makes boxes of the participants that ask over
 /// links, and a box of what is generic in its link gets no proof.)
 pub type SwitchLink = IssuerLink<HostRuntime>;
-
-/// Limits over a book that lasts.
-pub type LastingCardLimits = LastingLimits<FileStore<File>, HostRuntime>;
 
 /// A link to an issuer, with a name.
 #[derive(Drop)]
@@ -39,7 +34,7 @@ pub struct Setup<L: Link> {
     /// What a card may spend, in minor units: in a run, or where there is a book that lasts, in one of its days.
     pub limit: u64,
     /// The limits of cards over a book that lasts. `None`: the cards begin with nothing spent.
-    pub lasting: Option<LastingCardLimits>,
+    pub lasting: Option<CardLimits>,
     /// The least id that no item of that book reaches; 0 without one. A run is refused whose journal would give a lower one.
     pub first_id: u64,
     /// The greatest amount that the switch approves in an issuer's place, in minor units.
