@@ -11,7 +11,8 @@ prints and leaves is what the plain model makes of the rows. No transaction whos
 a request that got no response, or whose issuer is silent. A run without faults goes on with the file, whatever is in it, and leaves it
 sound.
 
-With `--threads` a disk that is full from one call on ends the run with status 3, though the input is open and nothing more comes.
+With `--threads` a disk of the journal that is full from one call on ends the run with status 3, though the input is open and nothing
+more comes, and an output that is full ends it with status 1.
 
 --all takes every call, --first the first N, and each fails in each way; otherwise --count of them are taken, spread evenly.
 """
@@ -117,6 +118,25 @@ def full_while_silent(shim, program, path, requests):
                 yield f"wanted status 3 and an error of {path}, came {status}: {said}"
 
 
+def full_output_while_silent(program, requests):
+    """What is wrong with a run by threads whose output is full, and whose input stays open with nothing more to read."""
+    command = [program, "run", "--flow", kills.FLOW, "--threads", "--sessions", "4"]
+    with open("/dev/full", "wb") as full:
+        pipes = {"stdin": subprocess.PIPE, "stdout": full, "stderr": subprocess.PIPE}
+        with subprocess.Popen(command, **pipes) as run:
+            run.stdin.write(requests)
+            run.stdin.flush()
+            try:
+                status = run.wait(shims.SECONDS)
+            except subprocess.TimeoutExpired:
+                run.kill()
+                yield "it goes on"
+                return
+            said = run.stderr.read().decode("utf-8", "replace")
+            if status != 1 or not said.startswith("cardswitch: standard output: cannot write: "):
+                yield f"wanted status 1 and an error of the output, came {status}: {said}"
+
+
 def arguments():
     """The words of the command line."""
     parser = argparse.ArgumentParser(description="Lets calls on the files of a journal fail.")
@@ -152,6 +172,10 @@ def main():
         passed, failed = passed + (not found), failed + bool(found)
         if found:
             print(f"FAILED disks: a full disk while the input is silent: {'; '.join(found)}")
+        found = [*full_output_while_silent(given.program, requests)]
+        passed, failed = passed + (not found), failed + bool(found)
+        if found:
+            print(f"FAILED disks: a full output while the input is silent: {'; '.join(found)}")
     print(f"{time.monotonic() - began:.1f} seconds; calls of --seed {given.seed}, {whole.calls} in a run")
     print(f"{passed} passed, {failed} failed")
     return 1 if failed else 0
