@@ -24,11 +24,11 @@ _cardswitch() {
                 mapfile -t COMPREPLY < <(compgen -W "end" -- "$word")
                 return
             } ;;
-        --header | --header= | --limit | --limit=)
+        --header | --header= | --limit | --limit= | --card | --card=)
             return ;;
     esac
     if [[ $COMP_CWORD -eq 1 ]]; then
-        words="step asm list graph decode encode recode recover journal check run help --help --version"
+        words="step asm list graph decode encode recode recover journal book check run help --help --version"
     else
         case ${COMP_WORDS[1]} in
             step) words="--flow --prompt --switch --help" ;;
@@ -43,7 +43,10 @@ _cardswitch() {
             journal)
                 words="--json --clear --help"
                 [[ $word == -* ]] || mapfile -t files < <(compgen -f -- "$word") ;;
-            help) words="step asm list graph decode encode recode recover journal check run" ;;
+            book)
+                words="--card --help"
+                [[ $word == -* ]] || mapfile -t files < <(compgen -f -- "$word") ;;
+            help) words="step asm list graph decode encode recode recover journal book check run" ;;
         esac
     fi
     mapfile -t COMPREPLY < <(compgen -W "$words" -- "$word")

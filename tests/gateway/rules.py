@@ -72,6 +72,21 @@ def handed_over_once(bench):
         awaited("recovery reverses them", lambda: len({it.key for it in issuer.reversals()}) == 2)
 
 
+def repeat_after_a_crash(bench):
+    """A request that comes again after its engine was killed, while the issuer had it, is a duplicate by the engine's limits book: the issuer
+    is not asked again, and the first one is reversed."""
+    with served(bench, *ONE, "--wait", "8", "--late", "9", delay=2.0) as (gateway, issuer):
+        client = Client(gateway.port)
+        client.send(request(1, 1))
+        awaited("the issuer has it", lambda: len(issuer.authorizations()) == 1)
+        os.kill(gateway.engines()[0], signal.SIGKILL)
+        awaited("the engine is back", lambda: len(gateway.events("engine_ready")) == 2)
+        wanted("the code of the repeat", client.ask(request(1, 1))[1][39], b"94")
+        awaited("recovery reverses the first", lambda: issuer.reversals())
+        wanted("authorizations at the issuer", len(issuer.authorizations()), 1)
+        wanted("another request", client.ask(request(1, 2))[1][39], b"00")
+
+
 def gone_and_late(bench):
     """G4: an approval whose client is gone, and one that comes late, is reversed at the issuer; all is accounted
     for."""
@@ -282,4 +297,4 @@ CASES = [
     ("G8", open_requests),
 ]
 # Cases of all rules together, or of a part of one that has no case without it.
-MORE = [journal_in_use, silent_engine, accounted_for]
+MORE = [journal_in_use, silent_engine, repeat_after_a_crash, accounted_for]

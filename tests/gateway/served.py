@@ -36,6 +36,7 @@ group = "alpha"
 [limits]
 per_card = 999999999999
 stand_in = 0
+book = "limits.db"
 
 [run]
 advices = 32

@@ -26,6 +26,10 @@ def is_simulation(value):
     return value is True or value == "silent"
 
 
+def is_period(value):
+    return value in ("day", "run")
+
+
 def names(most):
     return text_like(NAME % most), f"1 to {most} of a-z A-Z 0-9 _ - ."
 
@@ -51,6 +55,7 @@ TABLE = (lambda value: isinstance(value, dict)), "a table"
 PATH = is_path, "a path that is not empty"
 FLAG = flows.is_flag, "true or false"
 SIMULATION = is_simulation, 'true or "silent"'
+PERIOD = is_period, '"day" or "run"'
 
 # For each key of a table: which values it may have and how a message says so, whether it is required,
 # and whether it excludes `simulated`.
@@ -77,7 +82,9 @@ ROUTE = {
     "prefix": (digits(19), True, False),
 }
 LIMITS = {
+    "book": (PATH, False, False),
     "per_card": (integers(0, 999_999_999_999_999), False, False),
+    "period": (PERIOD, False, False),
     "stand_in": (integers(0, 999_999_999_999), False, False),
 }
 RUN = {

@@ -47,6 +47,14 @@ def route(random):
     return {"prefix": random.choice(PREFIXES), "group": random.choice(["alpha", "main", "g" * 32])}
 
 
+def limits(random):
+    return {
+        "per_card": random.choice([0, 10_000, 999_999_999_999_999]),
+        "period": random.choice(["day", "run"]),
+        "stand_in": random.choice([0, 999_999_999_999]),
+    }
+
+
 def run(random):
     return {
         "advices": random.choice([0, 1, 256]),
@@ -63,7 +71,7 @@ def document(random):
     made = {
         "host": [host(random) for _ in range(random.choice([0, 1, 2, 3]))],
         "route": [route(random) for _ in range(random.choice([0, 1, 2, 3]))],
-        "limits": some(random, {"per_card": random.choice([0, 10_000, 999_999_999_999_999]), "stand_in": random.choice([0, 999_999_999_999])}),
+        "limits": some(random, limits(random)),
         "run": some(random, run(random)) | {"allow": ALLOWED},
     }
     return {key: its for key, its in some(random, made).items() if key != "run"} | {"run": made["run"]}
@@ -92,7 +100,7 @@ def spoil(random, made):
     elif way == "odd" and keys:
         table[random.choice(keys)] = one_of(random, ODD)
     elif way == "known":
-        known = ["simulated", "to", "name", "retry_ms", "echo_s", "in_flight", "profile", "prefix", "sessions", "advices", "host"]
+        known = ["simulated", "to", "name", "retry_ms", "echo_s", "in_flight", "profile", "prefix", "sessions", "advices", "host", "period"]
         table[random.choice(known)] = one_of(random, [*ODD, *NAMES])
     else:
         table[random.choice(["color", "Name", "zz", "a b"])] = one_of(random, ODD)

@@ -24,7 +24,7 @@ use Rattle.sw_book.specs.Most.{max_limit}
 use Rattle.cardswitch.specs.Errors.{error_at}
 use Rattle.cardswitch.specs.Journals.{IsFound, IsNewJournal, IsOfFile}
 use Rattle.cardswitch.specs.Runs.{AnsweredOver, IsAcquirerFault, IsRunFaultOver}
-use Rattle.cardswitch.specs.Runs.{Answered, AnsweredBy, IfTaken, IsConfigAt, IsConfigFault, IsFileFault, IsFlowFault, IsLogFault, IsOpenFault, IsRecoverFault, IsRunFault}
+use Rattle.cardswitch.specs.Runs.{Answered, AnsweredBy, IfTaken, IsConfigAt, IsConfigFault, IsFileFault, IsFlowFault, IsLogFault, IsOpenFault, IsRecoverFault, IsRecoverFaultBy, IsRunFault}
 use Rattle.cardswitch.specs.Runs.{IsRunFaultBy, IsServeError, IsServeFault, Recovered, Served, ended_at, sender_of_setup}
 use Rattle.cardswitch.specs.SetUps.{TakesSetUp}
 use Rattle.cardswitch.specs.declared.error.RunError.{RunError}
@@ -156,6 +156,7 @@ flow_cases P path (error.Write e) file memory fault = absurd fault
 flow_cases P path (error.Step e) file memory fault = absurd fault
 flow_cases P path (error.Input e) file memory fault = absurd fault
 flow_cases P path (error.Text e) file memory fault = absurd fault
+flow_cases P path (error.Limits e) file memory fault = absurd fault
 
 -- a fault of the configuration file is one of these
 config_cases : (P : RunError → Type 0) (path : Option (Bor (List ℕ))) (e : RunError)
@@ -178,6 +179,7 @@ config_cases P path (error.Write e) file memory fault = absurd fault
 config_cases P path (error.Step e) file memory fault = absurd fault
 config_cases P path (error.Input e) file memory fault = absurd fault
 config_cases P path (error.Text e) file memory fault = absurd fault
+config_cases P path (error.Limits e) file memory fault = absurd fault
 
 flow_refused : (o : RunOptions) (before after : Option (List ℕ)) (e : RunError) → IsFlowFault o.flow.now e → after ≡ before → IsRunFault o before after e
 flow_refused o before after e fault same =
@@ -207,6 +209,7 @@ run_refused o c before after (error.Write e) stated fault = (c, stated, fault)
 run_refused o c before after (error.Step e) stated fault = (c, stated, fault)
 run_refused o c before after (error.Input e) stated fault = (c, stated, fault)
 run_refused o c before after (error.Text e) stated fault = (c, stated, fault)
+run_refused o c before after (error.Limits e) stated fault = (c, stated, fault)
 
 same_error : (e f : RunError) → ◌≡◌ {A = Result (Unit {0}) RunError} (Err e) (Err f) → f ≡ e
 same_error e f same = cc
@@ -243,6 +246,7 @@ serve_error journal (serve.LongResponse n) none h = tt
 serve_error journal (serve.Pool e) none h = tt
 serve_error journal (serve.Mismatch n) none h = tt
 serve_error journal serve.OtherResponses none h = tt
+serve_error journal (serve.OtherBook m n) none h = tt
 serve_error journal serve.Endless none h = tt
 
 served_fault : (o : RunOptions) (c : Config) (before after : Option (List ℕ)) (e : RunError) → limit_of o c ≤ max_limit
@@ -265,6 +269,7 @@ served_fault o c before after (error.Write e) limit none h = absurd h
 served_fault o c before after (error.Step e) limit none h = absurd h
 served_fault o c before after (error.Input e) limit none h = absurd h
 served_fault o c before after (error.Text e) limit none h = absurd h
+served_fault o c before after (error.Limits e) limit none h = absurd h
 
 -- a run over a journal in memory that is refused after its limit was taken
 pub refused_in_memory : (o : RunOptions) (c : Config) (before after : Option (List ℕ)) (r : Result (Unit {0}) RunError)
@@ -291,6 +296,7 @@ error_in_file path before after (serve.LongResponse n) h = tt
 error_in_file path before after (serve.Pool e) h = tt
 error_in_file path before after (serve.Mismatch n) h = tt
 error_in_file path before after serve.OtherResponses h = tt
+error_in_file path before after (serve.OtherBook m n) h = tt
 error_in_file path before after serve.Endless h = tt
 
 fault_in_file : (path : List ℕ) (before after : Option (List ℕ)) (e : RunError) → IsServeFault e → IsFileFault path before after (error_at path e)
@@ -312,6 +318,7 @@ fault_in_file path before after (error.Write e) h = absurd h
 fault_in_file path before after (error.Step e) h = absurd h
 fault_in_file path before after (error.Input e) h = absurd h
 fault_in_file path before after (error.Text e) h = absurd h
+fault_in_file path before after (error.Limits e) h = absurd h
 
 -- the faults of a run over the journal in a file
 file_fault : (o : RunOptions) (c : Config) (path : List ℕ) (before after : Option (List ℕ)) (e : RunError)
@@ -337,6 +344,7 @@ file_fault o c path before after (error.Write e) limit named h = absurd h
 file_fault o c path before after (error.Step e) limit named h = absurd h
 file_fault o c path before after (error.Input e) limit named h = absurd h
 file_fault o c path before after (error.Text e) limit named h = absurd h
+file_fault o c path before after (error.Limits e) limit named h = absurd h
 
 -- a run over the journal in a file that is refused after its limit was taken
 pub refused_in_file : (o : RunOptions) (c : Config) (path : List ℕ) (before after : Option (List ℕ)) (r : Result (Unit {0}) RunError)
@@ -365,6 +373,7 @@ open_fault path before (error.Write e) h = absurd h
 open_fault path before (error.Step e) h = absurd h
 open_fault path before (error.Input e) h = absurd h
 open_fault path before (error.Text e) h = absurd h
+open_fault path before (error.Limits e) h = absurd h
 
 pub unopened : (o : RunOptions) (c : Config) (path : List ℕ) (before after : Option (List ℕ)) (e : RunError)
     → limit_of o c ≤ max_limit → Some path ≡ journal_of o c → after ≡ before → IsOpenFault path e → IsRunFaultBy o c before after e
@@ -391,6 +400,7 @@ unlogged o c (Some path) before (error.Write x) limit is fault there = absurd fa
 unlogged o c (Some path) before (error.Step x) limit is fault there = absurd fault
 unlogged o c (Some path) before (error.Input x) limit is fault there = absurd fault
 unlogged o c (Some path) before (error.Text x) limit is fault there = absurd fault
+unlogged o c (Some path) before (error.Limits x) limit is fault there = absurd fault
 unlogged o c (Some path) before error.Refused limit is fault there = absurd fault
 unlogged o c (Some path) before (error.Recode x) limit is fault there = absurd fault
 
@@ -414,6 +424,14 @@ recover_fault o before after (error.Write e) h = absurd h
 recover_fault o before after (error.Step e) h = absurd h
 recover_fault o before after (error.Input e) h = absurd h
 recover_fault o before after (error.Text e) h = absurd h
+recover_fault o before after (error.Limits e) h = absurd h
+
+recover_fault_by : (o : RecoverOptions) (c : Config) (before after : Option (List ℕ)) (e : RunError) → IsConfigAt o.config c
+    → IsRecoverFaultBy c o.journal.now before after e → IsRecoverFault o before after e
+recover_fault_by o c before after e stated h = elim h [
+  inl fault ↦ recover_fault o before after e fault
+  | inr fault ↦ subst (IsRecoverFault o before after) (sym fault.1) (c, stated, fault.2)
+]
 
 -- no journal is opened of the file that `recover` names, and nothing is written
 pub unfound : (path : List ℕ) (before after : Option (List ℕ)) (e : RunError) → after ≡ before → IsOpenFault path e → IsFileFault path before after e
@@ -457,13 +475,14 @@ pub recovery_refused : (code : Result Flow RunError) (config : Result Config Run
     (r : Result (Unit {0}) RunError)
     → IfErr code (IsFlowFault o.flow.now) → IfErr config (IsConfigFault o.config)
     → IfErr code (λ e. (r ≡ Err e) × (after ≡ before)) → IfOk code (λ f. IfErr config (λ e. (r ≡ Err e) × (after ≡ before)))
-    → IfTaken code config (λ f c. IfErr r (IsFileFault o.journal.now before after))
+    → IfOk config (IsConfigAt o.config)
+    → IfTaken code config (λ f c. IfErr r (IsRecoverFaultBy c o.journal.now before after))
     → IfErr r (IsRecoverFault o before after)
-recovery_refused code config o before after (Ok done) flow_fault config_fault refuses denies h = tt
-recovery_refused (Err f) config o before after (Err e) flow_fault config_fault refuses denies h =
+recovery_refused code config o before after (Ok done) flow_fault config_fault refuses denies stated h = tt
+recovery_refused (Err f) config o before after (Err e) flow_fault config_fault refuses denies stated h =
     flow_cases (IsRecoverFault o before after) o.flow.now e (λ p cause is. (is, refuses.1)) tt
     (subst (IsFlowFault o.flow.now) (same_error e f refuses.0) flow_fault)
-recovery_refused (Ok f) (Err g) o before after (Err e) flow_fault config_fault refuses denies h =
+recovery_refused (Ok f) (Err g) o before after (Err e) flow_fault config_fault refuses denies stated h =
     config_cases (IsRecoverFault o before after) o.config e (λ p cause is. (is, denies.1)) tt
     (subst (IsConfigFault o.config) (same_error e g denies.0) config_fault)
-recovery_refused (Ok f) (Ok c) o before after (Err e) flow_fault config_fault refuses denies h = recover_fault o before after e h
+recovery_refused (Ok f) (Ok c) o before after (Err e) flow_fault config_fault refuses denies stated h = recover_fault_by o c before after e stated h

@@ -35,6 +35,7 @@ no_flow form path before (error.Step e) h = absurd h
 no_flow form path before (error.Serve e) h = absurd h
 no_flow form path before (error.Input e) h = absurd h
 no_flow form path before (error.Text e) h = absurd h
+no_flow form path before (error.Limits e) h = absurd h
 
 -- writing failed
 pub unwritten : (form : GraphForm) (path : List ℕ) (before after : Option (List ℕ)) (flow : Flow) (e : IoError) → IsOfWriting e

@@ -6,3 +6,4 @@ mod Openings
 mod Serving
 mod Stepping
 mod Profiled
+mod Books

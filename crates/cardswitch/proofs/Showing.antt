@@ -49,6 +49,7 @@ not_found o before (error.Write e) h = absurd h
 not_found o before (error.Step e) h = absurd h
 not_found o before (error.Input e) h = absurd h
 not_found o before (error.Text e) h = absurd h
+not_found o before (error.Limits e) h = absurd h
 
 -- writing failed
 pub unwritten : (o : JournalOptions) (before after : Option (List ℕ)) (s : Sight) (e : IoError) → IsOfWriting e

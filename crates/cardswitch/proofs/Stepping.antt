@@ -67,6 +67,7 @@ flow_fault (Some path) before after (error.Step e) h same = absurd h
 flow_fault (Some path) before after (error.Serve e) h same = absurd h
 flow_fault (Some path) before after (error.Input e) h same = absurd h
 flow_fault (Some path) before after (error.Text e) h same = absurd h
+flow_fault (Some path) before after (error.Limits e) h same = absurd h
 
 -- a fault of the script
 script_fault : (path : Option (Bor (List ℕ))) (before after : Option (List ℕ)) (e : RunError) → IsScriptFault before after e
@@ -89,6 +90,7 @@ script_fault path before after (error.Recode e) h = absurd h
 script_fault path before after (error.Serve e) h = absurd h
 script_fault path before after (error.Input e) h = absurd h
 script_fault path before after (error.Text e) h = absurd h
+script_fault path before after (error.Limits e) h = absurd h
 
 same_error : (e f : RunError) → ◌≡◌ {A = Result (Unit {0}) RunError} (Err e) (Err f) → e ≡ f
 same_error e f same = cc
@@ -160,6 +162,7 @@ file_session (Some path) (error.Step e) h = absurd h
 file_session (Some path) (error.Serve e) h = tt
 file_session (Some path) (error.Input e) h = tt
 file_session (Some path) (error.Text e) h = tt
+file_session (Some path) (error.Limits e) h = tt
 
 pub prompt_failed : (path : Option (Bor (List ℕ))) (file : Result (Option Flow) RunError) (before after : Option (List ℕ)) (r : Result (Unit {0}) RunError)
     → IfErr file (IsFileFlowFault path) → IfErr file (λ e. (r ≡ Err e) × (after ≡ before))

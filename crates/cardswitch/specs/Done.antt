@@ -15,9 +15,10 @@ use Rattle.cli_flows.specs.Subcommands.{IsAssembled, IsListed}
 use Rattle.cli_options.specs.Refusal.{status_of}
 use Rattle.cli_options.specs.declared.choice.DecodeOptions.{DecodeOptions}
 use Rattle.cli_options.specs.declared.choice.Options.{Options}
-use Rattle.cli_options.specs.declared.choice.Options.TheVariants.{Asm, Check, Decode, Encode, Graph, Journal, List as ListImage}
+use Rattle.cli_options.specs.declared.choice.Options.TheVariants.{Asm, Book, Check, Decode, Encode, Graph, Journal, List as ListImage}
 use Rattle.cli_options.specs.declared.choice.Options.TheVariants.{Recode, Recover, Run, Step}
 use Rattle.cli_options.specs.declared.error.OptionsError.{OptionsError}
+use Rattle.cardswitch.specs.Books.{IsBookLookFault}
 use Rattle.cardswitch.specs.Checking.{IsCheckDone, IsCheckFault}
 use Rattle.cardswitch.specs.Errors.{error_of_io, run_status}
 use Rattle.cardswitch.specs.Drawings.{IsDrawFault, IsDrawn}
@@ -45,6 +46,7 @@ IsDone files (Run o) unread written written_now =
     (f : Flow) × IsChecked f × Answered files f o unread written written_now
 IsDone files (Check o) unread written written_now = IsCheckDone o × (written_now ≡ written)
 IsDone files (Journal o) unread written written_now = IsLooked o written written_now
+IsDone files (Book o) unread written written_now = ⊤
 IsDone files Asm unread written written_now = IsAssembled unread written written_now
 IsDone files ListImage unread written written_now = IsListed unread written written_now
 IsDone files (Graph flow form) unread written written_now = IsDrawn form written written_now
@@ -92,6 +94,7 @@ IsErrorOf (Recover o) unread written written_now e = IsRecoverFault o written wr
 IsErrorOf (Run o) unread written written_now e = IsRunFault o written written_now e
 IsErrorOf (Check o) unread written written_now e = IsCheckFault o e × (written_now ≡ written)
 IsErrorOf (Journal o) unread written written_now e = IsLookFault o written written_now e
+IsErrorOf (Book o) unread written written_now e = IsBookLookFault o.book.now e
 IsErrorOf Asm unread written written_now e = IsAsmError unread written written_now e
 IsErrorOf ListImage unread written written_now e = IsListError unread written written_now e
 IsErrorOf (Graph flow form) unread written written_now e = IsDrawFault form flow.now written written_now e

@@ -14,14 +14,15 @@ use Rattle.run_setup.specs.declared.error.SetupError.{SetupError}
 use Rattle.run_setup.specs.declared.error.SetupError.TheVariants as setup
 use Rattle.cli_step.specs.declared.error.StepError.{StepError}
 use Rattle.cli_step.specs.declared.error.StepError.TheVariants as step
+use Rattle.cardswitch.specs.declared.book.BookRefusal.TheVariants as book
 use Rattle.cardswitch.specs.declared.error.JournalFault.TheVariants as fault
 use Rattle.cardswitch.specs.declared.error.RunError.{RunError}
-use Rattle.cardswitch.specs.declared.error.RunError.TheVariants.{BadLimit, Engine, Input, Journal, JournalFile, OutOfMemory, ProfileFile}
+use Rattle.cardswitch.specs.declared.error.RunError.TheVariants.{BadLimit, Engine, Input, Journal, JournalFile, Limits, OutOfMemory, ProfileFile}
 use Rattle.cardswitch.specs.declared.error.RunError.TheVariants.{Read, Recode, Serve, SetUp, Step, Text, Write}
 use Rattle.run_switch.specs.declared.error.ServeError.{ServeError}
 use Rattle.run_switch.specs.declared.error.ServeError.TheVariants as serve
 
--- 4 where memory ran out, 3 where a journal refused, 1 for a refused input, a failed read and a failed write
+-- 4 where memory ran out, 3 where a journal or a limits book refused, 1 for a refused input, a failed read and a failed write
 abbrev pub run_status : RunError → ℕ
 run_status OutOfMemory = 4
 run_status (Step (step.Journal line cause)) = 3
@@ -29,6 +30,9 @@ run_status (Serve (serve.Journal cause)) = 3
 run_status (Journal path cause) = 3
 run_status (JournalFile path (fault.Read e)) = 1
 run_status (JournalFile path cause) = 3
+run_status (Limits book.NoJournal) = 1
+run_status (Limits book.NoBook) = 1
+run_status (Limits r) = 3
 run_status _ = 1
 
 -- an error of a run over the journal in the file at a path: where the journal refused, or the engine over it, with its path

@@ -12,6 +12,7 @@
 -- | `graph` | `IsDrawn` | `IsDrawFault` | `Drawings.antt` |
 -- | `recode` | `IsRecoded` | `IsRecodeFault` | `Recoding.antt` |
 -- | `journal` | `IsLooked` | `IsLookFault` | `Looking.antt` |
+-- | `book` | (what it has written is said by `cli_book` alone) | `IsBookLookFault` | `Books.antt` |
 --
 -- `IsFound` is the journal of the file that the options or the configuration name (`IsOfFile`),
 -- or a new one in memory (`IsNewJournal`; `Journals.antt`).
@@ -19,6 +20,7 @@ pub mod Errors
 pub mod Journals
 pub mod SetUps
 pub mod Checking
+pub mod Books
 pub mod Runs
 pub mod Steps
 pub mod Drawings

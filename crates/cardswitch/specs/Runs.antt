@@ -29,7 +29,9 @@ use Rattle.run_switch.specs.declared.error.ServeError.TheVariants as serve
 use Rattle.run_setup.specs.Plans.{PlainSetup, journal_of, limit_of, log_path_of, no_config, setup_of}
 use Rattle.run_setup.specs.Profiles.{IsHostProfileOf}
 use Rattle.sw_book.specs.Most.{max_limit}
+use Rattle.cardswitch.specs.Books.{IsBookFault}
 use Rattle.cardswitch.specs.Errors.{error_at}
+use Rattle.cardswitch.specs.declared.book.BookRefusal.{BookRefusal}
 use Rattle.cardswitch.specs.Journals.{IsFound, IsFoundAt}
 use Rattle.cardswitch.specs.SetUps.{IsMistake, TakesSetUp}
 use Rattle.cardswitch.specs.declared.error.RunError.{RunError}
@@ -161,7 +163,7 @@ IsLogFault path error.OutOfMemory = ⊤
 IsLogFault path _ = ⊥
 
 -- The faults of `run` by this configuration, the first of which it reports: its limit, its hosts' profile files, its mistakes, its log,
--- its journal's file, and what is done with the journal. Nothing is written before that, nor under a limit that is too great.
+-- its journal's file, its limits book, and what is done with these. Nothing is written before that, nor under a limit that is too great.
 abbrev pub IsRunFaultBy : RunOptions → Config → Option (List ℕ) → Option (List ℕ) → RunError → Type 0
 IsRunFaultBy o c before after (error.BadLimit limit) =
     (limit ≡ limit_of o c) × (max_limit < limit) × (after ≡ before)
@@ -175,6 +177,7 @@ IsRunFaultBy o c before after (error.JournalFile path cause) =
 IsRunFaultBy o c before after (error.Journal path cause) = (limit_of o c ≤ max_limit) × (journal_of o c ≡ Some path)
 IsRunFaultBy o c before after (error.Engine path cause) = (limit_of o c ≤ max_limit) × (journal_of o c ≡ Some path)
 IsRunFaultBy o c before after (error.Serve e) = (limit_of o c ≤ max_limit) × IsServeError (journal_of o c) e
+IsRunFaultBy o c before after (error.Limits e) = (limit_of o c ≤ max_limit) × IsBookFault c before after e
 IsRunFaultBy o c before after error.OutOfMemory = max_limit < limit_of o c → after ≡ before
 IsRunFaultBy o c before after _ = ⊥
 
@@ -196,8 +199,14 @@ IsRunFault o before after (error.FlowFile path cause) = (path ≡ o.flow.now) ×
 IsRunFault o before after (error.ConfigFile path cause) = (text_of o.config ≡ Some path) × (after ≡ before)
 IsRunFault o before after e = (c : Config) × IsConfigAt o.config c × IsRunFaultOver o c before after e
 
+-- the faults of `recover` by this configuration: of the journal in the file at a path, or of the limits book
+abbrev pub IsRecoverFaultBy : Config → List ℕ → Option (List ℕ) → Option (List ℕ) → RunError → Type 0
+IsRecoverFaultBy c path before after e =
+    IsFileFault path before after e ⊎ ((r : BookRefusal) × (e ≡ error.Limits r) × IsBookFault c before after r)
+
 -- the same of `recover`, which has no limit of its own
 abbrev pub IsRecoverFault : RecoverOptions → Option (List ℕ) → Option (List ℕ) → RunError → Type 0
 IsRecoverFault o before after (error.FlowFile path cause) = (path ≡ o.flow.now) × (after ≡ before)
 IsRecoverFault o before after (error.ConfigFile path cause) = (text_of o.config ≡ Some path) × (after ≡ before)
+IsRecoverFault o before after (error.Limits e) = (c : Config) × IsConfigAt o.config c × IsBookFault c before after e
 IsRecoverFault o before after e = IsFileFault o.journal.now before after e

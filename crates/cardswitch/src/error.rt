@@ -5,6 +5,7 @@ ghost use Rattle.cardswitch.specs.Errors.{error_of_recode, error_of_serve, error
 ghost use Rattle.cardswitch.specs.Errors.{error_at, run_status};
 ghost use Rattle.cardswitch.specs.declared.error.RunError.TheVariants.{OutOfMemory};
 
+use crate::book::BookRefusal;
 use cli_check::CheckError;
 use cli_encode::{EncodeError, TextError};
 use cli_flows::FlowsError;
@@ -113,6 +114,9 @@ pub enum RunError {
     /// The profile file of `recode` is refused, or something of what it was to recode.
     #[error("{0}")]
     Recode(InputRefusal),
+    /// The limits book is refused, or it refused while it was in use.
+    #[error("{0}")]
+    Limits(BookRefusal),
     /// No memory was left.
     #[error("out of memory")]
     OutOfMemory,
@@ -139,7 +143,7 @@ impl RunError {
     }
 
     /// The exit status of a run that ends with this error: 1 for a refused input and for failed reads and writes,
-    /// 3 if a journal refused, 4 if memory ran out.
+    /// 3 if a journal or a limits book refused, 4 if memory ran out.
     pub fn status(&self) -> u8
         ensures { result ≡ run_status self.now }
     {
@@ -153,6 +157,8 @@ impl RunError {
                 ..
             } => 1,
             RunError::JournalFile { .. } => 3,
+            RunError::Limits(BookRefusal::NoJournal | BookRefusal::NoBook) => 1,
+            RunError::Limits(_) => 3,
             _ => 1,
         }
     }

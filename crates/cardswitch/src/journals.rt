@@ -5,8 +5,8 @@ ghost use Rattle.cardswitch.specs.Journals.{IsNewJournal, IsOfFile, IsOpenedOf};
 ghost use Rattle.cardswitch.specs.Runs.{IsOpenFault, IsServeFault};
 
 use crate::error::{JournalFault, RunError};
-use crate::journal_file::{is_foreign, lay};
 use journal_store::{Cause, Journal, JournalError};
+use run_files::{is_foreign, lay};
 use run_switch::ServeError;
 use sqlite::{Alter, Connection, Error, ErrorCode, MemStore};
 use sqlite_std_file::File;

@@ -66,15 +66,19 @@
 //!   of its log hold (`IsLooked`). With a row at fault it has written nothing, or the same of the
 //!   journal without such rows (`IsLookFault`). No contract says that these are the bytes of the file
 //!   at its path.
+//! - An error of a limits book has the path that the configuration or the options name (`IsBookFault`, `IsBookLookFault`). Where a book
+//!   refuses while a run goes on, its participant answers as if no memory were left, and the run asks what the book said (`told`).
+//!   What `book` has written is said by `cli_book` alone, and no contract says that it is of the file at its path.
 //! - No contract says what a flow file, a configuration file or a journal's file holds, nor that the
-//!   participants have the book of the setup, or that the trace is written. Of a script that is refused
+//!   participants have the book of the setup (`run_switch` requires it of itself), or that the trace is written. Of a script that is refused
 //!   `IsFailed` does not say what its earlier lines wrote, and no contract knows the text of help.
 #![tactic(auto)]
 
+mod book;
+mod book_look;
 mod checking;
 mod error;
 mod flow_file;
-mod journal_file;
 mod journals;
 mod log_file;
 mod looking;

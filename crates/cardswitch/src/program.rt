@@ -13,6 +13,7 @@ ghost use Rattle.cli_flows.specs.Subcommands.{IsAssembled, IsListed};
 ghost use Rattle.cli_io.specs.Errors.{IsOfWriting};
 ghost use Rattle.cli_options.specs.Refusal.{status_of};
 
+use crate::book_look::look_into_book;
 use crate::checking::check;
 use crate::error::RunError;
 use crate::flow_file::flow_at;
@@ -206,6 +207,7 @@ fn run_subcommand<
         Options::Recode(options) => recode(alloc, rt, options, input, out, err),
         Options::Recover(options) => recover(machine, options, out),
         Options::Journal(options) => look_into(alloc, rt, options, out),
+        Options::Book(options) => look_into_book(alloc, rt, options, out),
         Options::Check(options) => check(alloc, rt, options),
         Options::Run(options) => answer_requests(machine, options, input, out),
     }

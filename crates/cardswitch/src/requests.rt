@@ -13,10 +13,11 @@ ghost use Rattle.sw_book.specs.Most.{max_limit};
 ghost use Rattle.cardswitch.specs.Checking.{IsRunMistake};
 ghost use Rattle.cardswitch.specs.SetUps.{TakesSetUp};
 ghost use Rattle.cardswitch.specs.Runs.{Answered, AnsweredBy, AnsweredOver, IfTaken, IsRunFaultOver};
-ghost use Rattle.cardswitch.specs.Runs.{IsFileFault, IsFlowFault, IsLogFault, IsRecoverFault, IsRunFault, IsRunFaultBy};
+ghost use Rattle.cardswitch.specs.Runs.{IsFlowFault, IsLogFault, IsRecoverFault, IsRecoverFaultBy, IsRunFault, IsRunFaultBy};
 ghost use Rattle.cardswitch.specs.Runs.{IsServeFault, Recovered, Served, form_of, sender_of_setup};
 ghost use Rattle.cardswitch.specs.Runs.{ended_at, wanted};
 
+use crate::book::{over_book, told, without_book};
 use crate::checking::check_run;
 use crate::error::RunError;
 use crate::flow_file::{config_for, flow_at};
@@ -38,9 +39,10 @@ use sqlite_store::FileStore;
 use sqlite_trees::store::Store;
 use std::alloc::{AllocError, Global};
 use std::io::{Empty, Read, Write};
-use std::sync::Wait;
+use std::sync::{Arc, Wait};
 use std::thread::Threads;
 use std::time::Clock;
+use sw_lasting::BookFault;
 use sw_participant::Text;
 
 // Runs over a journal. Then it is reported what has become new of the hosts, and their counts, if they are wanted.
@@ -270,10 +272,13 @@ fn answer_by<
     match path {
         Some(path) => {
             let journal = open_file(alloc, rt, path.as_str())?;
+            let fault = Arc::new(alloc, BookFault::new())?;
+            let setup = over_book(alloc, rt, &config, setup, &fault)?;
             let ended = run_over(edge, setup, &code, journal, input, out);
-            in_file(path, ended)
+            told(in_file(path, ended), &fault, &config)
         }
         None => {
+            without_book(&config)?;
             let journal = open_in_memory(alloc)?;
             run_over(edge, setup, &code, journal, input, out)
         }
@@ -350,8 +355,8 @@ fn recover_by<T: Threads + Wait + Clock + Sync + Clone + Drop + Send + 'static, 
     ensures recovered { IfTaken code config (λ flow _. OnOk result
         (Recovered ⟦<FileStore<File> as Store>⟧ flow path.now
         (O.contents out.old) (O.contents out.new))) }
-    ensures failed { IfTaken code config (λ _ _. IfErr result
-        (IsFileFault path.now (O.contents out.old) (O.contents out.new))) }
+    ensures failed { IfTaken code config (λ _ c. IfErr result
+        (IsRecoverFaultBy c path.now (O.contents out.old) (O.contents out.new))) }
 {
     let steps = code?;
     let stated = config?;
@@ -361,6 +366,8 @@ fn recover_by<T: Threads + Wait + Clock + Sync + Clone + Drop + Send + 'static, 
     let setup = recovery(alloc, &stated)?;
     let named = Text::from_str(alloc, path)?;
     let journal = open_existing(alloc, rt, path)?;
+    let fault = Arc::new(alloc, BookFault::new())?;
+    let setup = over_book(alloc, rt, &stated, setup, &fault)?;
     let mut sink = std::io::sink();
     let mut unused = std::io::sink();
     let edge = &mut Edge {
@@ -370,7 +377,7 @@ fn recover_by<T: Threads + Wait + Clock + Sync + Clone + Drop + Send + 'static, 
     };
     let input: Option<Empty> = None;
     let ended = run_over(edge, setup, &steps, journal, input, out);
-    in_file(named, ended)
+    told(in_file(named, ended), &fault, &stated)
 }
 
 /// Finishes what the journal in a file has unfinished, and prints the lines of the history. A file that is not there is

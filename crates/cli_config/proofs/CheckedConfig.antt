@@ -164,14 +164,15 @@ abbrev run_path : TablePath
 run_path = record { section = section.Run; number = 0 }
 
 abbrev AreLimits : Option Members → Type 0
-AreLimits o = IfSome (limits_in o).per_card (IsIn 0 max_limit) × IfSome (limits_in o).stand_in (IsIn 0 max_amount)
+AreLimits o = IfSome (limits_in o).per_card (IsIn 0 max_limit) × IfSome (limits_in o).stand_in (IsIn 0 max_amount) × IfSome (limits_in o).book IsPath
 
 limits_checked : (ms : Members) → table_fault limits_path ms ≡ None → AreLimits (Some ms)
 limits_checked ms h =
     let b = none_bad limits_path ms h in (
-      number_fits 0 max_limit (value_at key.PerCard ms) (is_fit limits_path ms key.PerCard b.0),
+      number_fits 0 max_limit (value_at key.PerCard ms) (is_fit limits_path ms key.PerCard b.1.0),
       number_fits 0 max_amount (value_at key.StandIn ms)
-          (is_fit limits_path ms key.StandIn b.1.0),
+          (is_fit limits_path ms key.StandIn b.1.1.1.0),
+      path_fits (value_at key.Book ms) (is_fit limits_path ms key.Book b.0),
     )
 
 abbrev IsRun : Option Members → Type 0
@@ -195,7 +196,7 @@ unfolding first_fault
 config_checked top h =
     let s = none_of (section_fault top) sections (left_none _ _ h) in
     let doubles = right_none _ _ h in
-    let limits = only_table section.Limits AreLimits (tt, tt) limits_checked (value_at key.Limits top) s.1.1.1.0 in
+    let limits = only_table section.Limits AreLimits (tt, tt, tt) limits_checked (value_at key.Limits top) s.1.1.1.0 in
     let run = only_table section.Run IsRun (tt, tt, tt, tt, tt, tt, tt) run_checked (value_at key.Run top) s.1.1.1.1.0 in
     record {
       hosts = if_there (value_at key.Host top) _ AreHosts (hosts_checked (tables_of section.Host top) s.1.0
@@ -205,6 +206,7 @@ config_checked top h =
           doubles));
       per_card = limits.0;
       stand_in = limits.1;
+      book = limits.2;
       advices = run.2;
       sessions = run.0;
       journal = run.1;

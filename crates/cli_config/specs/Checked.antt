@@ -53,6 +53,7 @@ AreShortNames names = AllByRecursion (λ name. (is_name name ≡ true) × (lengt
 pub record IsChecked (c : Config) : Type 0 where
   pub hosts : IfSome c.hosts AreHosts
   pub routes : IfSome c.routes AreRoutes
+  pub book : IfSome c.limits.book IsPath
   pub per_card : IfSome c.limits.per_card (IsIn 0 max_limit)
   pub stand_in : IfSome c.limits.stand_in (IsIn 0 max_amount)
   pub advices : IfSome c.run.advices (IsIn 0 256)

@@ -1,5 +1,6 @@
 -- The configuration that a text states, or its first fault.
-use Rattle.std.specs.Prelude.{◌≡◌, ⊤, ℕ, true, List, map, Option, Some, None, option_map, unwrap_or, Result, Ok, Err}
+use Rattle.std.specs.Prelude.{◌≡◌, ⊤, ℕ, true, List, map, Option, Some, None, option_map, unwrap_or, Result, Ok, Err, codes, if◌then◌else◌}
+use Rattle.std.specs.Str.{bytes_eq}
 use Rattle.toml.specs.Data.{Data, boolean, Members}
 use Rattle.toml.specs.Parse.{parse_document}
 use Rattle.toml.specs.Errors.{IsWithin}
@@ -10,6 +11,8 @@ use Rattle.cli_config.specs.declared.config.Wire.TheVariants as wire
 use Rattle.cli_config.specs.declared.config.WireTimes as times
 use Rattle.cli_config.specs.declared.config.Route as route
 use Rattle.cli_config.specs.declared.config.Limits as limits
+use Rattle.cli_config.specs.declared.config.Period.{Period}
+use Rattle.cli_config.specs.declared.config.Period.TheVariants as period
 use Rattle.cli_config.specs.declared.config.RunTable as run
 use Rattle.cli_config.specs.declared.error.ConfigError.{ConfigError}
 use Rattle.cli_config.specs.declared.error.ConfigError.TheVariants.{OutOfMemory, Toml, Table}
@@ -57,10 +60,22 @@ host_of ms = record { name = text_at (spelling key.Name) ms; wire = wire_of ms; 
 abbrev pub route_of : Members → route.Route
 route_of ms = record { prefix = text_at (spelling key.Prefix) ms; group = text_at (spelling key.Group) ms }
 
+-- a period is "day" or "run"
+abbrev pub period_of : List ℕ → Period
+period_of text = if bytes_eq text (codes "day") then period.Day else period.Run
+
+abbrev pub period_if : Members → Option Period
+period_if ms = option_map period_of (text_if key.Period ms)
+
 -- limits, and settings of a run: none is stated where the file does not have the table
 abbrev pub limits_in : Option Members → limits.Limits
-limits_in None = record { per_card = None; stand_in = None }
-limits_in (Some ms) = record { per_card = number_at key.PerCard ms; stand_in = number_at key.StandIn ms }
+limits_in None = record { book = None; per_card = None; period = None; stand_in = None }
+limits_in (Some ms) = record {
+  book = text_if key.Book ms;
+  per_card = number_at key.PerCard ms;
+  period = period_if ms;
+  stand_in = number_at key.StandIn ms;
+}
 
 abbrev pub run_in : Option Members → run.RunTable
 run_in None = record { advices = None; allow = None; header = None; sessions = None; journal = None; log = None; profile = None; threads = None; unordered = None }

@@ -1,5 +1,5 @@
 -- The first fault of the tables of a document.
-use Rattle.std.specs.Prelude.{ℕ, ℤ, pos, Bool, true, false, ◌&&◌, not, nat_le, List, length, map, take, Option, Some, None, is_some, is_none, option_map}
+use Rattle.std.specs.Prelude.{ℕ, ℤ, pos, Bool, true, false, ◌&&◌, ◌||◌, not, nat_le, List, length, map, take, Option, Some, None, is_some, is_none, option_map}
 use Rattle.std.specs.Prelude.{option_and_then, codes, if◌then◌else◌}
 use Rattle.std.specs.Char.{is_ascii_digit}
 use Rattle.std.specs.List.{list_all, list_any}
@@ -30,6 +30,7 @@ fits_text (want.Name most) s = is_name s && nat_le (length s) most
 fits_text (want.Digits most) s = nat_le 1 (length s) && (nat_le (length s) most && list_all is_ascii_digit s)
 fits_text want.Path s = nat_le 1 (length s)
 fits_text want.Simulation s = bytes_eq s (codes "silent")
+fits_text want.Period s = bytes_eq s (codes "day") || bytes_eq s (codes "run")
 fits_text w s = false
 
 abbrev pub fits_integer : Want → ℤ → Bool

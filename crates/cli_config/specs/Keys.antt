@@ -25,7 +25,7 @@ abbrev pub keys_of : Section → List Key
 keys_of section.Top = key.Host ∷ key.Limits ∷ key.Route ∷ key.Run ∷ []
 keys_of section.Host = key.EchoS ∷ key.From ∷ key.InFlight ∷ key.Name ∷ key.Profile ∷ key.RetryMs ∷ key.Simulated ∷ key.HasStandIn ∷ key.TimeoutMs ∷ key.To ∷ []
 keys_of section.Route = key.Group ∷ key.Prefix ∷ []
-keys_of section.Limits = key.PerCard ∷ key.StandIn ∷ []
+keys_of section.Limits = key.Book ∷ key.PerCard ∷ key.Period ∷ key.StandIn ∷ []
 keys_of section.Run = key.Advices ∷ key.Allow ∷ key.Header ∷ key.Journal ∷ key.Log ∷ key.Profile ∷ key.Sessions ∷ key.Threads ∷ key.Unordered ∷ []
 
 abbrev pub spelling : Key → List ℕ
@@ -45,7 +45,9 @@ spelling key.TimeoutMs = codes "timeout_ms"
 spelling key.To = codes "to"
 spelling key.Group = codes "group"
 spelling key.Prefix = codes "prefix"
+spelling key.Book = codes "book"
 spelling key.PerCard = codes "per_card"
+spelling key.Period = codes "period"
 spelling key.StandIn = codes "stand_in"
 spelling key.Advices = codes "advices"
 spelling key.Allow = codes "allow"
@@ -74,7 +76,9 @@ wants key.TimeoutMs = want.Number 1 600000
 wants key.To = want.Path
 wants key.Group = want.Name 32
 wants key.Prefix = want.Digits 19
+wants key.Book = want.Path
 wants key.PerCard = want.Number 0 max_limit
+wants key.Period = want.Period
 wants key.StandIn = want.Number 0 max_amount
 wants key.Advices = want.Number 0 256
 wants key.Allow = want.Names 32

@@ -101,13 +101,37 @@ impl Drop for Route {
     }
 }
 
-/// Amounts, in minor units.
-#[derive(Clone, Copy)]
+/// What cards may spend, and where that is kept. Amounts are in minor units.
 pub struct Limits {
-    /// What a card may spend, at most 999,999,999,999,999.
+    /// The path of the limits book, not empty.
+    pub book: Option<Text>,
+    /// What a card may spend in a period, at most 999,999,999,999,999.
     pub per_card: Option<u64>,
+    /// For how long what a card has spent counts.
+    pub period: Option<Period>,
     /// The greatest amount that the switch approves in a silent issuer's place, at most 999,999,999,999.
     pub stand_in: Option<u64>,
+}
+
+// Written out, so that no caller proves again how its parts are dropped.
+impl Drop for Limits {
+    fn drop(self) {
+        let Limits {
+            book: _,
+            per_card: _,
+            period: _,
+            stand_in: _,
+        } = self;
+    }
+}
+
+/// For how long what a card has spent counts.
+#[derive(Clone, Copy, PartialEq, Eq)]
+pub enum Period {
+    /// For a day, by UTC.
+    Day,
+    /// For one run.
+    Run,
 }
 
 /// How the program runs.

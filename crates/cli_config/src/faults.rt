@@ -34,6 +34,7 @@ fn fits_text(want: Want, text: &str) -> bool
         Want::Digits(most) => !text.is_empty() && text.len() <= most && are_digits(text),
         Want::Path => !text.is_empty(),
         Want::Simulation => text == "silent",
+        Want::Period => text == "day" || text == "run",
         _ => false,
     }
 }

@@ -49,7 +49,9 @@ pub enum Key {
     To,
     Group,
     Prefix,
+    Book,
     PerCard,
+    Period,
     StandIn,
     Advices,
     Allow,
@@ -78,6 +80,8 @@ pub enum Want {
     Names(usize),
     /// `true`, or the string `silent`.
     Simulation,
+    /// The string `day` or the string `run`.
+    Period,
     /// `true` or `false`.
     Flag,
     /// An integer from the first to the second, both included.
@@ -130,7 +134,7 @@ impl Section {
                 Key::To,
             ],
             Section::Route => &[Key::Group, Key::Prefix],
-            Section::Limits => &[Key::PerCard, Key::StandIn],
+            Section::Limits => &[Key::Book, Key::PerCard, Key::Period, Key::StandIn],
             Section::Run => &[
                 Key::Advices,
                 Key::Allow,
@@ -157,8 +161,9 @@ impl Key {
             Key::Name => Want::Name(26),
             Key::Group => Want::Name(32),
             Key::Prefix => Want::Digits(19),
-            Key::From | Key::To | Key::Journal | Key::Log | Key::Profile => Want::Path,
+            Key::From | Key::To | Key::Book | Key::Journal | Key::Log | Key::Profile => Want::Path,
             Key::Simulated => Want::Simulation,
+            Key::Period => Want::Period,
             Key::HasStandIn | Key::Threads | Key::Unordered => Want::Flag,
             Key::Allow => Want::Names(32),
             Key::TimeoutMs => Want::Number(1, 600_000),
@@ -223,7 +228,9 @@ impl AsStr for Key {
             Key::To => "to",
             Key::Group => "group",
             Key::Prefix => "prefix",
+            Key::Book => "book",
             Key::PerCard => "per_card",
+            Key::Period => "period",
             Key::StandIn => "stand_in",
             Key::Advices => "advices",
             Key::Allow => "allow",
@@ -256,6 +263,7 @@ impl fmt::Display for Want {
                 "an array of strings, each 1 to {most} of a-z A-Z 0-9 _ - ."
             ),
             Want::Simulation => f.write_str("true or \"silent\""),
+            Want::Period => f.write_str("\"day\" or \"run\""),
             Want::Flag => f.write_str("true or false"),
             Want::Number(least, most) => write!(f, "an integer from {least} to {most}"),
         }

@@ -17,6 +17,8 @@
 //!
 //! [limits]
 //! per_card = 10000
+//! book = "book.db"
+//! period = "day"
 //!
 //! [run]
 //! journal = "journal.db"
@@ -66,7 +68,7 @@ mod keys;
 mod look;
 mod read;
 
-pub use config::{Config, Host, Limits, Route, RunTable, Wire, WireTimes};
+pub use config::{Config, Host, Limits, Period, Route, RunTable, Wire, WireTimes};
 pub use error::{ConfigError, FoundValue, TableError};
 pub use keys::{Key, Section, TablePath, Want};
 pub use read::read_config;

@@ -7,7 +7,7 @@ ghost use Rattle.cli_config.specs.Keys.{spelling};
 ghost use Rattle.cli_config.specs.Checked.{IsChecked};
 ghost use Rattle.cli_config.specs.ConfigFile as spec;
 
-use crate::config::{Config, Host, Limits, Route, RunTable, Wire, WireTimes};
+use crate::config::{Config, Host, Limits, Period, Route, RunTable, Wire, WireTimes};
 use crate::error::ConfigError;
 use crate::faults::first_fault;
 use crate::keys::{Key, Section};
@@ -131,18 +131,41 @@ fn routes_at(alloc: Global, top: &Table) -> Result<Option<Sequence<Route>>, Allo
     Ok(Some(Sequence::new(routes)))
 }
 
-fn limits_of(top: &Table) -> Limits
-    ensures { result ≡ spec.limits_of (table_view top.now) }
+fn period_of(text: &str) -> Period
+    ensures { result ≡ spec.period_of text.now }
+{
+    if text == "day" {
+        Period::Day
+    } else {
+        Period::Run
+    }
+}
+
+fn period_if(table: &Table) -> Option<Period>
+    ensures { result ≡ spec.period_if (table_view table.now) }
+{
+    match value_at(table, Key::Period) {
+        Some(_) => Some(period_of(text_at(table, Key::Period))),
+        None => None,
+    }
+}
+
+fn limits_of(alloc: Global, top: &Table) -> Result<Limits, AllocError>
+    ensures { IfOk result (λ l. l ≡ spec.limits_of (table_view top.now)) }
 {
     match table_at(top, Key::Limits) {
-        Some(table) => Limits {
+        Some(table) => Ok(Limits {
+            book: text_if(alloc, table, Key::Book)?,
             per_card: number_at(table, Key::PerCard),
+            period: period_if(table),
             stand_in: number_at(table, Key::StandIn),
-        },
-        None => Limits {
+        }),
+        None => Ok(Limits {
+            book: None,
             per_card: None,
+            period: None,
             stand_in: None,
-        },
+        }),
     }
 }
 
@@ -180,11 +203,12 @@ fn config_of(alloc: Global, top: &Table) -> Result<Config, AllocError>
 {
     let hosts = hosts_at(alloc, top)?;
     let routes = routes_at(alloc, top)?;
+    let limits = limits_of(alloc, top)?;
     let run = run_of(alloc, top)?;
     Ok(Config {
         hosts,
         routes,
-        limits: limits_of(top),
+        limits,
         run,
     })
 }

@@ -1,7 +1,9 @@
 -- The command line of `cardswitch`: its subcommands as a table, and what words mean by it. clap's
 -- contracts say what a parse by such a table gives.
-use Rattle.std.specs.Prelude.{◌≡◌, ◌^◌, ℕ, Bool, true, false, List, [], ◌∷◌, Option, Some, None, bytes_eq, codes, option_and_then, option_map, nat_le, nat_lt, not, ◌||◌}
+use Rattle.std.specs.Prelude.{◌≡◌, ◌^◌, ℕ, Bool, true, false, List, [], ◌∷◌, Option, Some, None, bytes_eq, codes, option_and_then, option_map, nat_le, nat_lt, not, ◌||◌, ◌&&◌, length}
 use Rattle.std.specs.Prelude.{if◌then◌else◌}
+use Rattle.std.specs.Char.{is_ascii_digit}
+use Rattle.std.specs.List.{list_all}
 use Rattle.std.specs.Option.{option_map_or}
 use Rattle.sw_base.specs.Spelling.{number_spelled}
 use Rattle.std.specs.Borrow.{Bor}
@@ -15,7 +17,8 @@ use Rattle.clap.specs.Words.{App, Row, Rule, Text, app_of, first_of, new_app, ne
 use Rattle.clap.specs.declared.builder.Command.{Command}
 use Rattle.clap.specs.declared.builder.Command.TheViews.{out-Command}
 use Rattle.cli_options.specs.declared.choice.Options.{Options}
-use Rattle.cli_options.specs.declared.choice.Options.TheVariants.{Asm, Check, Decode, Encode, Graph, Journal, List as ListImage, Recode, Recover, Run, Step}
+use Rattle.cli_options.specs.declared.choice.Options.TheVariants.{Asm, Book, Check, Decode, Encode, Graph, Journal, List as ListImage, Recode, Recover, Run, Step}
+use Rattle.cli_options.specs.declared.choice.BookOptions.{BookOptions}
 use Rattle.cli_options.specs.declared.choice.CheckOptions.{CheckOptions}
 use Rattle.cli_options.specs.declared.choice.DecodeOptions.{DecodeOptions}
 use Rattle.cli_options.specs.declared.choice.JournalOptions.{JournalOptions}
@@ -100,6 +103,10 @@ recover_app = with_rule (with_rule (with_rule (new_app (codes "recover")) (neede
 abbrev pub journal_app : App
 journal_app = with_rule (with_rule (with_rule (new_app (codes "journal")) (word_rule (codes "path"))) (flag_rule (codes "json"))) (flag_rule (codes "clear"))
 
+-- `book PATH [--card N]`
+abbrev pub book_app : App
+book_app = with_rule (with_rule (new_app (codes "book")) (word_rule (codes "path"))) (option_rule (codes "card"))
+
 -- `check --flow PATH [--config PATH]`
 abbrev pub check_app : App
 check_app = with_rule (with_rule (new_app (codes "check")) (needed_rule (codes "flow"))) (option_rule (codes "config"))
@@ -120,9 +127,9 @@ program_app = record (new_app (codes "cardswitch")) {
 
 -- the program with its subcommands
 abbrev pub switch_app : App
-switch_app = with_subcommand (with_subcommand (with_subcommand (with_subcommand
+switch_app = with_subcommand (with_subcommand (with_subcommand (with_subcommand (with_subcommand
     (with_subcommand (with_subcommand (with_subcommand (with_subcommand (with_subcommand (with_subcommand (with_subcommand program_app step_app.top) asm_app.top)
-    list_app.top) graph_app.top) decode_app.top) encode_app.top) recode_app.top) recover_app.top) journal_app.top) check_app.top) run_app.top
+    list_app.top) graph_app.top) decode_app.top) encode_app.top) recode_app.top) recover_app.top) journal_app.top) book_app.top) check_app.top) run_app.top
 
 -- the text that a borrow shows
 abbrev pub text_of : Option (Bor Text) → Option Text
@@ -225,6 +232,19 @@ pub record AreJournalOptions (rows : List Row) (o : JournalOptions) : Type 0 whe
   pub form : o.style.form ≡ journal_form (is_set (first_of (codes "json") rows))
   pub masking : o.style.masking ≡ masking_of (not (is_set (first_of (codes "clear") rows)))
 
+-- the number of a card, which may be left out
+abbrev pub is_card : Text → Bool
+is_card word = nat_le 1 (length word) && (nat_le (length word) 19 && list_all is_ascii_digit word)
+
+abbrev pub card_in : Option Text → Option (Option Text)
+card_in None = Some None
+card_in (Some word) = if is_card word then Some (Some word) else None
+
+-- the same of `book`
+pub record AreBookOptions (rows : List Row) (o : BookOptions) : Type 0 where
+  pub book : Some o.book.now ≡ first_of (codes "path") rows
+  pub card : card_in (first_of (codes "card") rows) ≡ Some (text_of o.card)
+
 -- the same of `check`
 pub record AreCheckOptions (rows : List Row) (o : CheckOptions) : Type 0 where
   pub flow : Some o.flow.now ≡ first_of (codes "flow") rows
@@ -249,6 +269,7 @@ AreOptionsAt name rows (Recode o) =
     (name ≡ codes "recode") × (recode_in (first_of (codes "from") rows) (first_of (codes "to") rows) ≡ Some (o.profile.now, o.way))
 AreOptionsAt name rows (Recover o) = (name ≡ codes "recover") × AreRecoverOptions rows o
 AreOptionsAt name rows (Journal o) = (name ≡ codes "journal") × AreJournalOptions rows o
+AreOptionsAt name rows (Book o) = (name ≡ codes "book") × AreBookOptions rows o
 AreOptionsAt name rows (Check o) = (name ≡ codes "check") × AreCheckOptions rows o
 AreOptionsAt name rows (Run o) = (name ≡ codes "run") × AreRunOptions rows o
 

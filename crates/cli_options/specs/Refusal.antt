@@ -3,7 +3,8 @@ use Rattle.std.specs.Prelude.{◌≡◌, ℕ, ⊤, List, []}
 use Rattle.clap.specs.Words.{IsAmong, Row, Text, fault_of, kind_of}
 use Rattle.clap.specs.declared.error.kind.ErrorKind.{ErrorKind}
 use Rattle.clap.specs.declared.error.kind.ErrorKind.TheVariants as kind
-use Rattle.cli_options.specs.CommandLine.{AreDecodeOptions, AreOptionsOf, AreRunOptions, IsNoSubcommand, switch_app}
+use Rattle.cli_options.specs.CommandLine.{AreBookOptions, AreDecodeOptions, AreOptionsOf, AreRunOptions, IsNoSubcommand, switch_app}
+use Rattle.cli_options.specs.declared.choice.BookOptions.{BookOptions}
 use Rattle.cli_options.specs.declared.choice.DecodeOptions.{DecodeOptions}
 use Rattle.cli_options.specs.declared.choice.RunOptions.{RunOptions}
 use Rattle.cli_options.specs.declared.choice.Options.{Options}
@@ -55,6 +56,12 @@ IsRunRefusal rows _ = ⊥
 abbrev pub IsDecodeRefusal : List Row → OptionsError → Type 0
 IsDecodeRefusal rows (BadNumber option expected found) = (o : DecodeOptions) → AreDecodeOptions rows o → ⊥
 IsDecodeRefusal rows _ = ⊥
+
+-- the same of the rows of `book`
+abbrev pub IsBookRefusal : List Row → OptionsError → Type 0
+IsBookRefusal rows NoSubcommand = (o : BookOptions) → AreBookOptions rows o → ⊥
+IsBookRefusal rows (BadNumber option expected found) = (o : BookOptions) → AreBookOptions rows o → ⊥
+IsBookRefusal rows _ = ⊥
 
 -- help and the version are shown; every other text reports a mistake
 abbrev pub kind_status : ErrorKind → ℕ

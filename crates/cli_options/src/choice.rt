@@ -30,6 +30,8 @@ pub enum Options<'a> {
     Recover(RecoverOptions<'a>),
     /// `journal`: prints what a journal's file holds.
     Journal(JournalOptions<'a>),
+    /// `book`: prints what the cards have spent by a limits book, or what one card has.
+    Book(BookOptions<'a>),
     /// `check`: looks for mistakes in a flow file and a configuration file, and runs nothing.
     Check(CheckOptions<'a>),
     /// `run`: answers the requests in frames from standard input, by the flow of the flow file at a path.
@@ -114,6 +116,15 @@ pub struct JournalOptions<'a> {
     pub path: &'a str,
     /// In which form it is printed: with `--json` in lines of JSON, and with `--clear` unmasked.
     pub style: Style,
+}
+
+/// What `book` is given.
+#[derive(Clone, Copy)]
+pub struct BookOptions<'a> {
+    /// The path of the book's file.
+    pub book: &'a str,
+    /// The number of the one card that is wanted, 1 to 19 digits.
+    pub card: Option<&'a str>,
 }
 
 /// What `check` is given.

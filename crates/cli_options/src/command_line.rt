@@ -1,16 +1,19 @@
 //! Reads the words of a command line.
 ghost use Rattle.std.specs.Prelude.{◌≡◌, IfErr, IfOk, None, OnOk, Some, codes, map};
+ghost use Rattle.std.specs.Char.{is_ascii_digit};
+ghost use Rattle.std.specs.List.{list_all};
 ghost use Rattle.clap.specs.Words.{first_of, found_of, rows_of};
-ghost use Rattle.cli_options.specs.CommandLine.{AreOptionsAt, AreOptionsOf, AreRunOptions};
+ghost use Rattle.cli_options.specs.CommandLine.{AreBookOptions, AreOptionsAt, AreOptionsOf};
+ghost use Rattle.cli_options.specs.CommandLine.{AreRunOptions, card_in, is_card};
 ghost use Rattle.cli_options.specs.CommandLine.{AreDecodeOptions, graph_form, header_in, header_of, is_set, journal_form};
 ghost use Rattle.cli_options.specs.CommandLine.{masking_of, number_in, recode_in};
 ghost use Rattle.cli_options.specs.CommandLine.{stats_in, text_of, trace_in};
 ghost use Rattle.cli_options.specs.Refusal.{IsAccepted, IsBadForm, IsBadNumber, IsOneProfile};
-ghost use Rattle.cli_options.specs.Refusal.{IsDecodeRefusal, IsRefusalAt, IsRefusalOf, IsRunRefusal};
+ghost use Rattle.cli_options.specs.Refusal.{IsBookRefusal, IsDecodeRefusal, IsRefusalAt, IsRefusalOf, IsRunRefusal};
 
 use crate::choice::{
-    CheckOptions, DecodeOptions, JournalOptions, Options, RecodeOptions, RecodeWay, RecoverOptions,
-    RunOptions, StatsLines, StepOptions, TraceForm,
+    BookOptions, CheckOptions, DecodeOptions, JournalOptions, Options, RecodeOptions, RecodeWay,
+    RecoverOptions, RunOptions, StatsLines, StepOptions, TraceForm,
 };
 use crate::error::OptionsError;
 use crate::table::switch_command;
@@ -26,6 +29,9 @@ const BOUND: u64 = 1 << 63;
 
 /// The most bytes that a header has.
 const MAX_HEADER: u64 = 64;
+
+/// The most digits that a card number has.
+const MAX_CARD: usize = 19;
 
 /// The options that the words ask for. The first word is the program's name, as in `env::args`.
 ///
@@ -139,6 +145,35 @@ fn header_of(text: Option<&str>) -> Result<u64, OptionsError>
     }
 }
 
+fn are_digits(text: &str) -> bool
+    ensures { result ≡ list_all is_ascii_digit text.now }
+{
+    text.as_bytes().iter().all(|byte| byte.is_ascii_digit())
+}
+
+/// Whether a text is the number of a card.
+fn is_card(text: &str) -> bool
+    ensures { result ≡ is_card text.now }
+{
+    !text.is_empty() && text.len() <= MAX_CARD && are_digits(text)
+}
+
+/// The card number of `--card`; `None` if it was not given.
+fn card_in(text: Option<&str>) -> Result<Option<&str>, OptionsError>
+    ensures found { IfOk result (λ card. card_in (text_of text.entry) ≡ Some (text_of card)) }
+    ensures refused { IfErr result (λ e. IsBadNumber e × (card_in (text_of text.entry) ≡ None)) }
+{
+    match text {
+        None => Ok(None),
+        Some(text) if is_card(text) => Ok(Some(text)),
+        Some(text) => Err(OptionsError::BadNumber {
+            name: "card",
+            expected: "1 to 19 decimal digits",
+            found: Quoted::of(text.as_bytes()),
+        }),
+    }
+}
+
 /// The lines of numbers that `--stats` asks for: without a value, as with `end`, one at the end.
 fn stats_in(text: Option<&str>) -> Result<StatsLines, OptionsError>
     ensures found { IfOk result (λ lines. stats_in (text_of text.entry) ≡ Some lines) }
@@ -204,6 +239,20 @@ fn decode_options(found: &ArgMatches<'_>) -> Result<DecodeOptions, OptionsError>
     Ok(DecodeOptions {
         masking: masking_of(is_set(text_at(found, "mask"))),
         header: header_of(text_at(found, "header"))?,
+    })
+}
+
+/// The options of `book`, by what clap found for it.
+fn book_options<'a>(found: &ArgMatches<'a>) -> Result<BookOptions<'a>, OptionsError>
+    ensures found { IfOk result (AreBookOptions (rows_of (found_of found.now))) }
+    ensures refused { IfErr result (IsBookRefusal (rows_of (found_of found.now))) }
+{
+    let Some(book) = text_at(found, "path") else {
+        return Err(OptionsError::NoSubcommand);
+    };
+    Ok(BookOptions {
+        book,
+        card: card_in(text_at(found, "card"))?,
     })
 }
 
@@ -276,6 +325,7 @@ fn options_at<'a>(name: &str, found: &ArgMatches<'a>) -> Result<Options<'a>, Opt
             })),
             None => Err(OptionsError::NoSubcommand),
         },
+        "book" => Ok(Options::Book(book_options(found)?)),
         "check" => match text_at(found, "flow") {
             Some(flow) => Ok(Options::Check(CheckOptions {
                 flow,

@@ -44,7 +44,7 @@ const FLOW: OptionRow<'static> = OptionRow {
     is_required: true,
 };
 
-const COMMANDS: [CommandRow<'static>; 11] = [
+const COMMANDS: [CommandRow<'static>; 12] = [
     CommandRow {
         name: "step",
         about: "Runs a script of transactions from standard input and prints one line for each step",
@@ -177,6 +177,24 @@ const COMMANDS: [CommandRow<'static>; 11] = [
                 name: "clear",
                 given: Given::Flag,
                 help: "Shows card numbers, tracks, PIN, chip data, MAC and other entries whole",
+                is_required: false,
+            },
+        ],
+    },
+    CommandRow {
+        name: "book",
+        about: "Shows what the cards have spent, by day",
+        options: &[
+            OptionRow {
+                name: "path",
+                given: Given::Word("PATH"),
+                help: "The limits book's file",
+                is_required: true,
+            },
+            OptionRow {
+                name: "card",
+                given: Given::Value("N"),
+                help: "The number of the one card that is shown, 1 to 19 digits [default: all cards together]",
                 is_required: false,
             },
         ],

@@ -34,6 +34,7 @@ mod found;
 mod looking;
 mod rest;
 
+pub use disks::disks_of;
 pub use error::{CopyError, LookError};
 pub use files::{Copy, copy_files};
 pub use found::FoundJournal;

@@ -30,7 +30,7 @@ abbrev pub no_config : Config
 no_config = record {
   hosts = None;
   routes = None;
-  limits = record { per_card = None; stand_in = None };
+  limits = record { book = None; per_card = None; period = None; stand_in = None };
   run = record { advices = None; allow = None; header = None; sessions = None; journal = None; log = None; profile = None; threads = None; unordered = None };
 }
 

@@ -20,7 +20,9 @@ fn no_config() -> Config
         hosts: None,
         routes: None,
         limits: Limits {
+            book: None,
             per_card: None,
+            period: None,
             stand_in: None,
         },
         run: RunTable {

@@ -33,6 +33,7 @@
 //! hosts, and those that are reached by streams, in the order of the configuration (`IsWordsOf`).
 #![tactic(auto)]
 
+mod book;
 mod error;
 mod file;
 mod links;
@@ -40,6 +41,7 @@ mod plan;
 mod recoded;
 mod words;
 
+pub use book::with_book;
 pub use error::{ConfigFileError, SetupError};
 pub use file::config_at;
 pub use links::routes;

@@ -161,6 +161,8 @@ pub fn setup<T: Threads + Wait + Clock + Clone + Drop + Send + 'static>(
     let Links { queried, advised } = links_to_hosts(threads_of_hosts, alloc, rt, config)?;
     Ok(Setup {
         limit,
+        lasting: None,
+        first_id: 0,
         stand_in: stand_in(config),
         routes,
         queried,
@@ -195,6 +197,8 @@ pub fn recovery(alloc: Global, config: &Config) -> Result<Setup<SwitchLink>, Set
     let routes = routes(alloc, config)?;
     Ok(Setup {
         limit: LIMIT,
+        lasting: None,
+        first_id: 0,
         stand_in: stand_in(config),
         routes,
         queried: unasked(alloc, config)?,

@@ -39,6 +39,9 @@ pub enum ServeError {
     /// The message of this number cannot be put in a context. No message causes this error.
     #[error("message {0}: {1}")]
     Request(u64, ContextError),
+    /// The journal would give ids that the limits book has already: its next one is `next`, and the book has `last`.
+    #[error("the limits book is of another journal: it has transaction {last}, and the journal's next one is {next}")]
+    OtherBook { last: u64, next: u64 },
     /// The engine cannot have this many sessions.
     #[error("--sessions: {0} is not 1 to 16")]
     BadSessions(usize),

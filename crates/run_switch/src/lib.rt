@@ -155,6 +155,7 @@ mod edge;
 mod error;
 mod given;
 mod leg;
+mod named;
 mod passing;
 mod progress;
 mod record_log;

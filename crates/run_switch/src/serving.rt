@@ -5,13 +5,9 @@ ghost use Rattle.std.specs.Prelude.{IfErr, IfNone, IfOk, IfSome, OnErr, OnOk};
 ghost use Rattle.tx_engine.specs.Calls.{waits};
 ghost use Rattle.std.specs.Io.KnownBytes.{Appends};
 ghost use Rattle.flow_model.specs.declared.flow.Flow.{Flow};
-ghost use Rattle.sw_context.specs.Names.{is_name};
 ghost use Rattle.sw_issuers.specs.Sending.{SendsAdvice};
-ghost use Rattle.sw_participant.specs.Callers.{Within};
 ghost use Rattle.sw_participant.specs.Calls.{PerformsCall};
-ghost use Rattle.sw_participant.specs.Stations.{calls_of, name_of, object_of, rule_of};
 ghost use Rattle.sw_parts.specs.Routes.{shown_routes};
-ghost use Rattle.sw_parts.specs.ShownBooks.{shown_book};
 ghost use Rattle.tx_history.specs.declared.journal.JournalView.{JournalView};
 ghost use Rattle.journal_store.specs.Kept.{kept};
 ghost use Rattle.tx_plant.specs.Plant.{IsEngine, Seen, seen};
@@ -25,7 +21,7 @@ ghost use Rattle.run_switch.specs.Ran.{lines_cut};
 ghost use Rattle.run_switch.specs.Rounds.{Recovers, Round, RoundsFor};
 ghost use Rattle.run_input.specs.Requests.{ReadTo, passed_over, readings};
 ghost use Rattle.run_switch.specs.Stopped.{DrainsSome, GoesOnSome, IsStopped, ServesSome};
-ghost use Rattle.run_switch.specs.Stations.{HasParticipant, IsQuery};
+ghost use Rattle.run_switch.specs.Stations.{HasLimits, HasParticipant, IsQuery};
 ghost use Rattle.run_switch.specs.Shown.{TellsAll, TellsRun, unfinished_in, unfinished_of};
 ghost use Rattle.run_switch.specs.Traces.{DrainsAll, Tells, log_of};
 ghost use Rattle.cli_io.specs.Written.{AppendsBeginning};
@@ -34,6 +30,7 @@ ghost use Rattle.run_switch.specs.declared.reporter.LineForm.TheVariants.{Text};
 use crate::advices::{Advisor, send_advices};
 use crate::edge::Edge;
 use crate::error::ServeError;
+use crate::named::named;
 use crate::progress::Progress;
 use crate::reporter::write_lines;
 use crate::saying::unfinished_in;
@@ -42,6 +39,7 @@ use crate::stream::answer_input;
 use crate::streaming::{Stream, answer_stream};
 use crate::switch::Switch;
 use crate::unsuited::cause_of;
+use sw_card_limits::CardLimits;
 use cli_io::IoError;
 use flow_asm::Code;
 use journal_store::Journal;
@@ -295,6 +293,7 @@ struct Over<S: Alter, R: Read, L: Link> {
     // These two are what the stations are required to have been made with.
     limit: u64,
     stand_in: u64,
+    first_id: u64,
     input: Option<R>,
     header: usize,
     sender: Sender<L>,
@@ -310,6 +309,7 @@ impl<S: Alter + Drop, R: Read + Drop, L: Link> Drop for Over<S, R, L> {
             journal: _,
             limit: _,
             stand_in: _,
+            first_id: _,
             input: _,
             header: _,
             sender: _,
@@ -337,9 +337,8 @@ impl<S: Alter + Drop, R: Read + Drop + Send + 'static, L: Link> Over<S, R, L> {
     ) -> Result<StreamEnd, ServeError>
         requires check { HasParticipant Participant-dyn (codes "check")
             (PerformsCall ⟦<Bystander<CheckFields> as Participant>⟧) [] stations.check }
-        requires limits { HasParticipant Participant-dyn (codes "limits")
-            (PerformsCall ⟦<Limits as Participant>⟧)
-            (shown_book (record { limit = self.limit; items = [] })) stations.limits }
+        requires limits { HasLimits Participant-dyn (PerformsCall ⟦<Limits as Participant>⟧)
+            (PerformsCall ⟦<CardLimits as Participant>⟧) self.limit stations.limits }
         requires route { HasParticipant Participant-dyn (codes "route")
             (PerformsCall ⟦<Bystander<Route> as Participant>⟧)
             (shown_routes self.sender.routes) stations.route }
@@ -373,6 +372,7 @@ impl<S: Alter + Drop, R: Read + Drop + Send + 'static, L: Link> Over<S, R, L> {
             journal,
             limit: _,
             stand_in: _,
+            first_id,
             input,
             header,
             sender,
@@ -390,6 +390,12 @@ impl<S: Alter + Drop, R: Read + Drop + Send + 'static, L: Link> Over<S, R, L> {
             }
         };
         let first = plant.engine().opened().next_id;
+        if first < first_id {
+            return Err(ServeError::OtherBook {
+                last: first_id - 1,
+                next: first,
+            });
+        }
         let answered = Progress::begin(alloc, plant.engine(), first);
         let mut switch = Switch { plant, answered };
         let advisor = Advisor::new(sender, advices, first);
@@ -506,27 +512,6 @@ fn add_query(queries: &mut Vec<Station>, station: Station) -> Result<(), AllocEr
     Ok(queries.push(station)?)
 }
 
-// The station of a participant whose name is good.
-fn named(
-    alloc: Global,
-    name: &str,
-    participant: Box<dyn Participant + Send + Sync>,
-) -> Result<Station, NoMemory>
-    requires { is_name name.now ≡ true }
-    ensures named { IfOk result (λ station. name_of station ≡ name.now) }
-    ensures shows { IfOk result (λ station. object_of Participant-dyn station
-        ≡ object participant) }
-    ensures within { IfOk result (λ station. Within (rule_of Participant-dyn station)
-        (PerformsCall (Participant-box participant))) }
-    ensures none_made { IfOk result (λ station. calls_of station ≡ 0) }
-{
-    match Station::new(alloc, name, participant) {
-        Ok(station) => Ok(station),
-        Err(StationError::BadName) => unreachable!(),
-        Err(StationError::OutOfMemory) => Err(NoMemory),
-    }
-}
-
 /// Recovers what the journal has unfinished. Without an input, it prints the lines of that, and does nothing more.
 /// Otherwise it answers the requests of the input as they come, then runs what is on the shelf, and sends the
 /// stored advices. Between two reads of the input it sends some of them in turn, at most as many as the setup says.
@@ -596,6 +581,8 @@ pub fn run<
 {
     let Setup {
         limit,
+        lasting,
+        first_id,
         stand_in,
         routes,
         queried,
@@ -611,6 +598,7 @@ pub fn run<
         journal,
         limit,
         stand_in,
+        first_id,
         input,
         header,
         sender: sender_over(alloc, routes.as_slice(), advised)?,
@@ -622,10 +610,20 @@ pub fn run<
     let Ok(book) = Book::new(alloc, limit) else {
         unreachable!()
     };
+    let limits = match lasting {
+        None => match Box::new(alloc, Limits::new(alloc, book)) {
+            Ok(limits) => named(alloc, "limits", limits),
+            Err(_) => Err(NoMemory),
+        },
+        Some(limits) => match Box::new(alloc, limits) {
+            Ok(limits) => named(alloc, "limits", limits),
+            Err(_) => Err(NoMemory),
+        },
+    };
     // (All at once: with a return for each, each would prove how everything else is dropped.)
     let (Ok(check), Ok(limits), Ok(route), Ok(reverse)) = (
         boxed(alloc, CheckFields::new(alloc)),
-        Box::new(alloc, Limits::new(alloc, book)),
+        limits,
         boxed(alloc, Route::new(alloc, routes)),
         Box::new(alloc, Reverse::new(alloc)),
     ) else {
@@ -638,9 +636,8 @@ pub fn run<
     ) else {
         return Err(ServeError::OutOfMemory);
     };
-    let (Ok(check), Ok(limits), Ok(route), Ok(reverse)) = (
+    let (Ok(check), Ok(route), Ok(reverse)) = (
         named(alloc, "check", check),
-        named(alloc, "limits", limits),
         named(alloc, "route", route),
         named(alloc, "reverse", reverse),
     ) else {

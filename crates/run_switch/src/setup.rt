@@ -3,7 +3,9 @@
 ghost use Rattle.std.specs.Prelude.{◌≡◌, ◌≤◌, IfOk, string_bytes};
 ghost use Rattle.sw_book.specs.Most.{max_limit};
 ghost use Rattle.run_switch.specs.Links.{query_name, sender_with};
+ghost use Rattle.run_switch.specs.Stations.{limit_over};
 
+use sw_card_limits::CardLimits;
 use run_responses::ResponseOrder;
 use std::alloc::{AllocError, Global};
 use sw_hosts::IssuerLink;
@@ -29,8 +31,12 @@ pub struct NamedLink<L: Link> {
 /// What a run has besides its flow and its journal.
 #[derive(Drop)]
 pub struct Setup<L: Link> {
-    /// What a card may spend, in minor units.
+    /// What a card may spend, in minor units: in a run, or where there is a book that lasts, in one of its days.
     pub limit: u64,
+    /// The limits of cards over a book that lasts. `None`: the cards begin with nothing spent.
+    pub lasting: Option<CardLimits>,
+    /// The least id that no item of that book reaches; 0 without one. A run is refused whose journal would give a lower one.
+    pub first_id: u64,
     /// The greatest amount that the switch approves in an issuer's place, in minor units.
     pub stand_in: u64,
     /// Which group of the flow asks the issuer of a card, by the beginning of the card's number: for requests and
@@ -52,6 +58,8 @@ pub struct Setup<L: Link> {
     pub timed: Option<HostRuntime>,
     // Such as a book may have.
     ghost within: { limit ≤ max_limit },
+    // The book that lasts has the same.
+    ghost same: { limit_over limit lasting ≡ limit },
 }
 
 /// The name of the participant that asks over the link of this name.

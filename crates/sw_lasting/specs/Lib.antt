@@ -1,3 +1,4 @@
 pub mod Keeping
 pub mod Noting
 pub mod Holding
+pub mod Limit

@@ -23,7 +23,7 @@ use Rattle.run_switch.proofs.Stops.{on_err_of}
 use Rattle.sw_parts.specs.declared.limits.Limits.{Limits}
 use Rattle.sw_parts.specs.Routes.{shown_routes}
 use Rattle.sw_parts.specs.ShownBooks.{shown_book}
-use Rattle.run_switch.specs.contracts.serving.named.{dyn-1-ghosts}
+use Rattle.run_switch.specs.contracts.named.named.{dyn-1-ghosts}
 use Rattle.run_switch.proofs.serving.run.OwnLists.{at-1-1, at-1-2, at-1-3, at-1-4, at-1-5, at-1-6, at-1-7, own-1, lawful-own-1}
 use Rattle.run_switch.proofs.serving.run.Hidden.{sends-own-1, syncs-own-1}
 use Rattle.run_switch.proofs.serving.run.Goals as goal

@@ -148,3 +148,6 @@ returns-in_err-recover-clause-stopped g c = on_err_of c.from_residual-in_err-rec
 
 pub returns-in-Err-clause-stopped : goal.returns-in-Err-clause-stopped
 returns-in-Err-clause-stopped g c = inl (Keeps-refl _)
+
+pub returns-then-first-first_id-clause-stopped : goal.returns-then-first-first_id-clause-stopped
+returns-then-first-first_id-clause-stopped g c = inl (Keeps-refl _)

@@ -1,0 +1,5 @@
+mod FirstDays
+mod Joining
+mod LineLemmas
+mod LookLemmas
+mod TotalLemmas

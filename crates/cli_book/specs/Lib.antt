@@ -1,0 +1,5 @@
+pub mod Cards
+pub mod Days
+pub mod Lines
+pub mod Looks
+pub mod Shown
