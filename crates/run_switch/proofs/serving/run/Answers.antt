@@ -24,7 +24,7 @@ use Rattle.sw_parts.specs.declared.limits.Limits.{Limits}
 use Rattle.sw_parts.specs.Routes.{shown_routes}
 use Rattle.sw_parts.specs.ShownBooks.{shown_book}
 use Rattle.run_switch.specs.contracts.named.named.{dyn-1-ghosts}
-use Rattle.run_switch.proofs.serving.run.OwnLists.{at-1-1, at-1-2, at-1-3, at-1-4, at-1-5, at-1-6, at-1-7, own-1, lawful-own-1}
+use Rattle.run_switch.proofs.serving.run.OwnLists.{at-1-1, at-1-2, at-1-3, at-1-4, at-1-5, at-1-6, at-1-7, at-1-8, own-1, lawful-own-1}
 use Rattle.run_switch.proofs.serving.run.Hidden.{sends-own-1, syncs-own-1}
 use Rattle.run_switch.proofs.serving.run.Goals as goal
 
@@ -80,8 +80,8 @@ returns-in_err-query-clause-stopped g c = on_err_of c.from_residual-in_err-query
 pub returns-in_err-station-clause-stopped : goal.returns-in_err-station-clause-stopped
 returns-in_err-station-clause-stopped g c = on_err_of c.from_residual-in_err-station.result (inl (Keeps-refl _))
 
-pub returns-in_err-add_query-in-Ok-new-clause-stopped : goal.returns-in_err-add_query-in-Ok-new-clause-stopped
-returns-in_err-add_query-in-Ok-new-clause-stopped g c = on_err_of c.from_residual-in_err-add_query-in-Ok-new.result (inl (Keeps-refl _))
+pub returns-in_err-add_query-in-Ok-new-3-clause-stopped : goal.returns-in_err-add_query-in-Ok-new-3-clause-stopped
+returns-in_err-add_query-in-Ok-new-3-clause-stopped g c = on_err_of c.from_residual-in_err-add_query-in-Ok-new-3.result (inl (Keeps-refl _))
 
 pub returns-in-Err-BadName-clause-stopped : goal.returns-in-Err-BadName-clause-stopped
 returns-in-Err-BadName-clause-stopped g c = inl (Keeps-refl _)
@@ -90,10 +90,13 @@ pub returns-in-Err-OutOfMemory-clause-stopped : goal.returns-in-Err-OutOfMemory-
 returns-in-Err-OutOfMemory-clause-stopped g c = inl (Keeps-refl _)
 
 pub named-requires : goal.named-requires
-named-requires g c = check_good
+named-requires g c = limits_good
+
+pub named-requires-in-Ok-new-2 : goal.named-requires-in-Ok-new-2
+named-requires-in-Ok-new-2 g c = limits_good
 
 pub named-requires-2 : goal.named-requires-2
-named-requires-2 g c = limits_good
+named-requires-2 g c = check_good
 
 pub named-requires-3 : goal.named-requires-3
 named-requires-3 g c = route_good
@@ -115,70 +118,64 @@ named-requires-7 g c = respond_good
 
 pub run-requires-clause-check : goal.run-requires-clause-check
 run-requires-clause-check g c = λ κs within. record {
-  named = c.in-Ok-Ok-Ok-Ok-2.ensures.named;
-  shows = c.in-Ok-Ok-Ok-Ok-2.ensures.shows
-      ∙ (read_made (dyn-1-ghosts (own-1, lawful-own-1, sends-own-1, syncs-own-1)).0 _ at-1-1 refl _ (λ j w. j.1.object w) _ _ c.in-Ok-Ok-Ok-Ok.check.value c.into_dyn_box.ensures.1
+  named = c.in-Ok-Ok-Ok-2.ensures.named;
+  shows = c.in-Ok-Ok-Ok-2.ensures.shows
+      ∙ (read_made (dyn-1-ghosts (own-1, lawful-own-1, sends-own-1, syncs-own-1)).0 _ at-1-3 refl _ (λ j w. j.1.object w) _ _ c.in-Ok-Ok-Ok-Ok.check.value c.into_dyn_box-2.ensures.1
       ∙ (c.in-Ok-Ok-Ok-Ok.ensures ∙ c.new-2.ensures));
-  within = λ id act o x reply p y h. rw (c.into_dyn_box.ensures.0) at (c.in-Ok-Ok-Ok-Ok-2.ensures.within id act o x reply p y h);
+  within = λ id act o x reply p y h. rw (c.into_dyn_box-2.ensures.0) at (c.in-Ok-Ok-Ok-2.ensures.within id act o x reply p y h);
 }
 
 pub run-requires-clause-limits : goal.run-requires-clause-limits
-run-requires-clause-limits g c = λ κs within. record {
-  named = c.in-Ok-Ok-Ok-Ok-2.ensures'.named;
-  shows = c.in-Ok-Ok-Ok-Ok-2.ensures'.shows
-      ∙ (read_made (dyn-1-ghosts (own-1, lawful-own-1, sends-own-1, syncs-own-1)).0 _ at-1-2 refl _ (λ j w. j.1.object w) _ _ c.in-Ok-Ok-Ok-Ok.limits.value c.into_dyn_box-2.ensures.1
-      ∙ (ap (λ (l : Limits). shown_book l.book) c.in-Ok-Ok-Ok-Ok.ensures'.ok ∙ (c.new-3.ensures ∙ ap shown_book c.in-Ok.ensures.book)));
-  within = λ id act o x reply p y h. rw (c.into_dyn_box-2.ensures.0) at (c.in-Ok-Ok-Ok-Ok-2.ensures'.within id act o x reply p y h);
-}
+run-requires-clause-limits g c = λ κs within. let h = c.match-lasting-2 in ?
 
 pub run-requires-clause-route : goal.run-requires-clause-route
 run-requires-clause-route g c = λ κs within. record {
-  named = c.in-Ok-Ok-Ok-Ok-2.ensures''.named;
-  shows = c.in-Ok-Ok-Ok-Ok-2.ensures''.shows
-      ∙ (read_made (dyn-1-ghosts (own-1, lawful-own-1, sends-own-1, syncs-own-1)).0 _ at-1-3 refl _ (λ j w. j.1.object w) _ _ c.in-Ok-Ok-Ok-Ok.route.value c.into_dyn_box-3.ensures.1
-      ∙ (c.in-Ok-Ok-Ok-Ok.ensures'' ∙ (c.new-5.ensures ∙ ap shown_routes (sym (ap (λ (z : PlainSender). z.routes) c.in_ok-sender_over.ensures ∙ c.as_slice.ensures)))));
-  within = λ id act o x reply p y h. rw (c.into_dyn_box-3.ensures.0) at (c.in-Ok-Ok-Ok-Ok-2.ensures''.within id act o x reply p y h);
+  named = c.in-Ok-Ok-Ok-2.ensures'.named;
+  shows = c.in-Ok-Ok-Ok-2.ensures'.shows
+      ∙ (read_made (dyn-1-ghosts (own-1, lawful-own-1, sends-own-1, syncs-own-1)).0 _ at-1-4 refl _ (λ j w. j.1.object w) _ _ c.in-Ok-Ok-Ok-Ok.route.value c.into_dyn_box-3.ensures.1
+      ∙ (c.in-Ok-Ok-Ok-Ok.ensures' ∙ (c.new-3.ensures ∙ ap shown_routes (sym (ap (λ (z : PlainSender). z.routes) c.in_ok-sender_over.ensures ∙ c.as_slice.ensures)))));
+  within = λ id act o x reply p y h. rw (c.into_dyn_box-3.ensures.0) at (c.in-Ok-Ok-Ok-2.ensures'.within id act o x reply p y h);
 }
 
 pub run-requires-clause-reverse : goal.run-requires-clause-reverse
 run-requires-clause-reverse g c = λ κs within. record {
-  named = c.in-Ok-Ok-Ok-Ok-2.ensures'''.named;
-  shows = c.in-Ok-Ok-Ok-Ok-2.ensures'''.shows
-      ∙ (read_made (dyn-1-ghosts (own-1, lawful-own-1, sends-own-1, syncs-own-1)).0 _ at-1-4 refl _ (λ j w. j.1.object w) _ _ c.in-Ok-Ok-Ok-Ok.reverse.value c.into_dyn_box-4.ensures.1
+  named = c.in-Ok-Ok-Ok-2.ensures''.named;
+  shows = c.in-Ok-Ok-Ok-2.ensures''.shows
+      ∙ (read_made (dyn-1-ghosts (own-1, lawful-own-1, sends-own-1, syncs-own-1)).0 _ at-1-5 refl _ (λ j w. j.1.object w) _ _ c.in-Ok-Ok-Ok-Ok.reverse.value c.into_dyn_box-4.ensures.1
       ∙ refl);
-  within = λ id act o x reply p y h. rw (c.into_dyn_box-4.ensures.0) at (c.in-Ok-Ok-Ok-Ok-2.ensures'''.within id act o x reply p y h);
+  within = λ id act o x reply p y h. rw (c.into_dyn_box-4.ensures.0) at (c.in-Ok-Ok-Ok-2.ensures''.within id act o x reply p y h);
 }
 
 pub run-requires-clause-standin : goal.run-requires-clause-standin
 run-requires-clause-standin g c = λ κs within. record {
-  named = c.in-Ok-Ok-Ok-2.ensures.named;
-  shows = c.in-Ok-Ok-Ok-2.ensures.shows
-      ∙ (read_made (dyn-1-ghosts (own-1, lawful-own-1, sends-own-1, syncs-own-1)).0 _ at-1-5 refl _ (λ j w. j.1.object w) _ _ c.in-Ok-Ok-Ok.standin.value c.into_dyn_box-5.ensures.1
-      ∙ (c.in-Ok-Ok-Ok.ensures ∙ c.new-8.ensures));
-  within = λ id act o x reply p y h. rw (c.into_dyn_box-5.ensures.0) at (c.in-Ok-Ok-Ok-2.ensures.within id act o x reply p y h);
+  named = c.in-Ok-Ok-Ok-3.ensures.named;
+  shows = c.in-Ok-Ok-Ok-3.ensures.shows
+      ∙ (read_made (dyn-1-ghosts (own-1, lawful-own-1, sends-own-1, syncs-own-1)).0 _ at-1-6 refl _ (λ j w. j.1.object w) _ _ c.in-Ok-Ok-Ok.standin.value c.into_dyn_box-5.ensures.1
+      ∙ (c.in-Ok-Ok-Ok.ensures ∙ c.new-6.ensures));
+  within = λ id act o x reply p y h. rw (c.into_dyn_box-5.ensures.0) at (c.in-Ok-Ok-Ok-3.ensures.within id act o x reply p y h);
 }
 
 pub run-requires-clause-forward : goal.run-requires-clause-forward
 run-requires-clause-forward g c = λ κs within. record {
-  named = c.in-Ok-Ok-Ok-2.ensures'.named;
-  shows = c.in-Ok-Ok-Ok-2.ensures'.shows
-      ∙ (read_made (dyn-1-ghosts (own-1, lawful-own-1, sends-own-1, syncs-own-1)).0 _ at-1-6 refl _ (λ j w. j.1.object w) _ _ c.in-Ok-Ok-Ok.forward.value c.into_dyn_box-6.ensures.1
+  named = c.in-Ok-Ok-Ok-3.ensures'.named;
+  shows = c.in-Ok-Ok-Ok-3.ensures'.shows
+      ∙ (read_made (dyn-1-ghosts (own-1, lawful-own-1, sends-own-1, syncs-own-1)).0 _ at-1-7 refl _ (λ j w. j.1.object w) _ _ c.in-Ok-Ok-Ok.forward.value c.into_dyn_box-6.ensures.1
       ∙ refl);
-  within = λ id act o x reply p y h. rw (c.into_dyn_box-6.ensures.0) at (c.in-Ok-Ok-Ok-2.ensures'.within id act o x reply p y h);
+  within = λ id act o x reply p y h. rw (c.into_dyn_box-6.ensures.0) at (c.in-Ok-Ok-Ok-3.ensures'.within id act o x reply p y h);
 }
 
 pub run-requires-clause-respond : goal.run-requires-clause-respond
 run-requires-clause-respond g c = λ κs within. record {
-  named = c.in-Ok-Ok-Ok-2.ensures''.named;
-  shows = c.in-Ok-Ok-Ok-2.ensures''.shows
-      ∙ (read_made (dyn-1-ghosts (own-1, lawful-own-1, sends-own-1, syncs-own-1)).0 _ at-1-7 refl _ (λ j w. j.1.object w) _ _ c.in-Ok-Ok-Ok.respond.value c.into_dyn_box-7.ensures.1
-      ∙ (c.in-Ok-Ok-Ok.ensures'' ∙ c.new-11.ensures));
-  within = λ id act o x reply p y h. rw (c.into_dyn_box-7.ensures.0) at (c.in-Ok-Ok-Ok-2.ensures''.within id act o x reply p y h);
+  named = c.in-Ok-Ok-Ok-3.ensures''.named;
+  shows = c.in-Ok-Ok-Ok-3.ensures''.shows
+      ∙ (read_made (dyn-1-ghosts (own-1, lawful-own-1, sends-own-1, syncs-own-1)).0 _ at-1-8 refl _ (λ j w. j.1.object w) _ _ c.in-Ok-Ok-Ok.respond.value c.into_dyn_box-7.ensures.1
+      ∙ (c.in-Ok-Ok-Ok.ensures'' ∙ c.new-9.ensures));
+  within = λ id act o x reply p y h. rw (c.into_dyn_box-7.ensures.0) at (c.in-Ok-Ok-Ok-3.ensures''.within id act o x reply p y h);
 }
 
 pub add_query-requires : goal.add_query-requires
 add_query-requires g c = record {
   link = c.as_str.result.now;
-  named = c.in-Ok-new.ensures.named ∙ (c.as_str-in-loop-name.ensures.value ∙ c.in_ok-station.ensures);
-  within = λ id act o x reply p y h. rw (c.in-Ok-new.ensures.its_type, c.into_dyn_box-in-loop-name.ensures.0) at (h);
+  named = c.in-Ok-new-3.ensures.named ∙ (c.as_str-in-loop-name.ensures.value ∙ c.in_ok-station.ensures);
+  within = λ id act o x reply p y h. rw (c.in-Ok-new-3.ensures.its_type, c.into_dyn_box-in-loop-name.ensures.0) at (h);
 }
