@@ -37,6 +37,7 @@ from dataclasses import dataclass, field
 
 sys.dont_write_bytecode = True
 
+import book  # noqa: E402
 from harness import shims  # noqa: E402
 from kills import recovery_faults, soundness_faults, tables_of  # noqa: E402
 from model import flows, journal, messages, script, switch  # noqa: E402
@@ -190,6 +191,24 @@ class Threads(Command):
             yield f"{len(taken)} transactions of {wanted} offers"
 
 
+@dataclass
+class OverBook(Command):
+    """A run over a limits book, of these requests. What was approved has its item, and no card has more than its limit."""
+
+    folder: book.Folder = None
+    made: list = field(default_factory=list)
+
+    def fresh(self):
+        super().fresh()
+        for name in glob.glob(glob.escape(self.folder.path("limits.db")) + "*"):
+            os.remove(name)
+
+    def faults(self, whole, came, at, goes_on):
+        yield from super().faults(whole, came, at, goes_on)
+        found = [messages.decode(frame[4:])[1] for frame in messages.frames(came.stdout)]
+        yield from book.accounting(self.folder, self.made, {int(its[11]) - 1: its[39] for its in found}, 0)
+
+
 def with_silence(requests):
     """What `run` writes if the issuer of one request is silent, for each authorization in turn: the responses, and the trace."""
     flow = flows.read_flow(read("examples/switch.toml"))
@@ -224,6 +243,17 @@ def with_a_stop(text):
         yield stopped[: at - first] + stopped[at - first + 1 :]
 
 
+def over_book(program, room):
+    """A run over a limits book, whose cards meet their limits."""
+    tables = {"limits": f'book = "{room}/limits.db"', "run": f'journal = "{room}/beside.db"'}
+    folder = book.Folder(argparse.Namespace(program=program), room, **tables)
+    made = book.frames(random.Random(5), 12)
+    requests = [book.authorization(*it) for it in made]
+    words = [program, "run", "--flow", FLOW, "--config", folder.path("config.toml")]
+    others = [responses for responses, _ in with_silence(requests)]
+    return OverBook("run, over a limits book", words, b"".join(map(messages.framed, requests)), f"{room}/beside.db", others, None, folder, made)
+
+
 def switch_commands(program, room):
     """The commands of `cardswitch`."""
     requests = read("examples/requests.frames")
@@ -232,6 +262,7 @@ def switch_commands(program, room):
         yield Command(f"step: {name}", [program, "step"], text.encode())
     yield Command("run, in memory", [program, "run", "--flow", FLOW], requests, others=others)
     yield Traced("run, with the trace", [program, "run", "--flow", FLOW, "--trace"], requests, others=others, traces=traces)
+    yield over_book(program, room)
     path = f"{room}/journal.db"
     yield Command("run, on a file", [program, "run", "--flow", FLOW, "--journal", path], requests, path, others)
     yield Command("recover", [program, "recover", "--flow", FLOW, "--journal", path], b"", path, begins_with=RELEASED)
