@@ -6,7 +6,8 @@
 Each command runs once undisturbed, which counts its requests for memory. Then it runs again with the Nth of them refused, and again
 with all from the Nth on. The commands are those of `cardswitch`, and two of test programs, which go on after memory was refused.
 
-The status of `cardswitch` has to be 4 (out of memory) or 3 (the journal is out of memory), or 0 if the program can do without.
+The status of `cardswitch` has to be 4 (out of memory) or 3 (the journal is out of memory), and its last line has to say so, or it has to
+be 0 if the program can do without.
 What it wrote has to be a beginning of what the undisturbed run wrote, and all of it at status 0. `run` may have answered one request as
 if its issuer were silent, as it does if memory is refused after a query was sent; the plain model says what that gives. The
 lines of its trace are judged in the same way. A journal's file has to be sound, without a row at fault, and `recover` has to leave no
@@ -119,6 +120,8 @@ class Command:
             yield "it is done, and its output is another one"
         elif not any(it.startswith(came.stdout) for it in wanted):
             yield f"its output is no beginning of the undisturbed one: {came.stdout[-80:]}"
+        if came.status in (3, 4) and not came.stderr.endswith(b"out of memory\n"):
+            yield f"it does not say that memory ran out: {ending(came)}"
         if self.path:
             yield from self.journal_faults()
 

@@ -3,34 +3,42 @@
 gateway.
 
     tests/gateway/measure.py [--program PATH | --fast] [--engines 1,2,4] [--connections N] [--requests N]
-        [--broker] [--kills [--every S]]
+        [--alone | --broker] [--kills [--every S]]
 
 With --fast the engines cost nothing, so that the gateway is what is measured. With --broker RabbitMQ is in between: one
 node, one front and one worker. Each connection has one request open at a time. The issuer answers at once. With --kills
 an engine is killed each S seconds, and each fifth time the gateway, or the front and the worker in turn; then the
-accounting has to find no fault. `./test` does not run it.
+accounting has to find no fault. With --alone one engine is measured without a gateway: its input and output are pipes,
+in which as many requests are open as there would be connections, and the host of examples/ answers them at once. `./test`
+does not run it.
 """
 
 import argparse
 import asyncio
+import collections
 import contextlib
 import os
 import random
 import signal
+import subprocess
 import sys
 import tempfile
 import time
 
 sys.dont_write_bytecode = True
 HERE = os.path.dirname(os.path.abspath(__file__))
-sys.path[:0] = [os.path.dirname(HERE), os.path.join(os.path.dirname(os.path.dirname(HERE)), "contrib", "gateway")]
+TOP = os.path.dirname(os.path.dirname(HERE))
+sys.path[:0] = [os.path.dirname(HERE), os.path.join(TOP, "contrib", "gateway"), os.path.join(TOP, "bench")]
 
 import broker  # noqa: E402
 import kills  # noqa: E402
+import latency  # noqa: E402
 from gateway import load, rabbit  # noqa: E402
+from gateway.clients import request  # noqa: E402
 from gateway.fronts import warmed  # noqa: E402
 from gateway.issuer import Issuer  # noqa: E402
-from gateway.served import serving  # noqa: E402
+from gateway.served import FLOW, configured, serving  # noqa: E402
+from model import messages  # noqa: E402
 
 # How long stored reversals may take after the last kill, in seconds.
 SETTLED = 90
@@ -102,6 +110,32 @@ def served(given, engines):
         issuer.close()
 
 
+def figures(name, count, times, took):
+    """The line of a run of this many requests, of which those that were answered took these times."""
+    shown = sorted(times) or [0.0]
+    share = lambda part: 1000 * shown[min(len(shown) - 1, int(part * len(shown)))]  # noqa: E731
+    return f"{name}: {count / took:.0f} requests a second, median {share(0.5):.1f} ms, 99th percentile {share(0.99):.1f} ms"
+
+
+def alone(given):
+    """One engine without a gateway; prints its line."""
+    words = [given.program, "run", "--flow", FLOW, "--config", "config.toml", "--journal", "journal.db"]
+    words += ["--threads", "--sessions", "16"]
+    frames = collections.deque(messages.framed(request(number, number)) for number in range(given.requests))
+    streams = {"stdin": subprocess.PIPE, "stdout": subprocess.PIPE, "bufsize": 0}
+    with tempfile.TemporaryDirectory() as room, latency.delayed(room, 0.0):
+        configured(room)
+        with subprocess.Popen(words, cwd=room, **streams) as process:
+            # (one is sent first, while the program starts and opens the pipes)
+            first = collections.deque([messages.framed(request(999_999, 999_999))])
+            collections.deque(latency.talk(process, first, 1), maxlen=0)
+            began = time.monotonic()
+            times = [*latency.talk(process, frames, given.connections)]
+            took = time.monotonic() - began
+            process.stdin.close()
+    print(figures("one engine alone", given.requests, times, took), flush=True)
+
+
 def measured(given, engines):
     """One run; prints its line."""
     with served(given, engines) as (parts, issuer):
@@ -110,10 +144,7 @@ def measured(given, engines):
         began = time.monotonic()
         is_over = asyncio.run(worked(work, parts, given))
         took, used = time.monotonic() - began, seconds_of(parts[0].process.pid) - before
-        shown = sorted(work.times) or [0.0]
-        share = lambda part: 1000 * shown[min(len(shown) - 1, int(part * len(shown)))]  # noqa: E731
-        line = f"{engines} engines: {len(work.records) / took:.0f} requests a second, "
-        line += f"median {share(0.5):.1f} ms, 99th percentile {share(0.99):.1f} ms"
+        line = figures(f"{engines} engines", len(work.records), work.times, took)
         if not given.kills:
             line += f", {1e6 * used / len(work.records):.0f} µs of processor time in the gateway for each"
         print(line + ("" if is_over else "; not all were over"), flush=True)
@@ -129,11 +160,15 @@ def main():
     parser.add_argument("--connections", type=int, default=64)
     parser.add_argument("--requests", type=int, default=10_000)
     parser.add_argument("--seconds", type=float, default=600, help="how long a run may take")
+    parser.add_argument("--alone", action="store_true", help="one engine without a gateway")
     parser.add_argument("--broker", action="store_true")
     parser.add_argument("--kills", action="store_true")
     parser.add_argument("--every", type=float, default=4)
     given = parser.parse_args()
     given.program = FAST if given.fast else os.path.abspath(given.program)
+    if given.alone:
+        alone(given)
+        return
     for engines in given.engines.split(","):
         measured(given, int(engines))
 

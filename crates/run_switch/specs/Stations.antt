@@ -27,7 +27,7 @@ module _ {I : Type 0} {D : I → Type 0} (members : (z : (k : I) × D k) → Gho
     pub within : Within (rule_of members s) rule
 
   -- the station of the limits of cards: over a new book in memory, or over a book that lasts, each with this limit
-  pub HasLimits : (memory lasting : Rule) (limit : ℕ) → Station I D → Type 0
+  abbrev pub HasLimits : (memory lasting : Rule) (limit : ℕ) → Station I D → Type 0
   HasLimits memory lasting limit s =
       HasParticipant (codes "limits") memory (shown_book (record { limit = limit; items = [] })) s
       ⊎ ((k : Keeping) × (k.days.limit ≡ limit) × HasParticipant (codes "limits") lasting (shown_keeping k) s)
