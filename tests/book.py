@@ -266,8 +266,8 @@ CASES = [
 
 
 def frames(chosen, count=40):
-    """Authorizations of few cards, so that their limits are met: for each its STAN, amount and card."""
-    return [(stan, chosen.randint(1, 2_000), chosen.choice(CARDS)) for stan in range(1, count + 1)]
+    """Authorizations of few cards, so that their limits are met, of whole hundreds, which the issuer approves: STAN, amount and card."""
+    return [(stan, 100 * chosen.randint(1, 20), chosen.choice(CARDS)) for stan in range(1, count + 1)]
 
 
 def accounting(folder, made, answered, first_day):
