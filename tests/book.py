@@ -306,8 +306,8 @@ def accounting(folder, made, answered, first_day):
 
 
 def killed(folder, chosen, most):
-    """What is wrong with runs that are killed, each after at most this many seconds, until one has answered all. Between two of them the day
-    may change."""
+    """What is wrong with runs that are killed, each after at most this many seconds, until one has answered all. Between two of them the next
+    day may begin. (After that nothing would be forgotten yet.)"""
     made = frames(chosen)
     answered, rest, kill_count, status = {}, [*range(len(made))], 0, None
     words = chosen.choice([(), ("--threads", "--sessions", "4")])
@@ -321,7 +321,7 @@ def killed(folder, chosen, most):
         kill_count += 1
         yield from accounting(folder, made, answered, 20_000)
         if chosen.random() < 0.2:
-            folder.set(NOON + kill_count * DAY // 2)
+            folder.set(NOON + DAY)
     if status != 0:
         yield f"it ended with {status}: {told.decode()}"
 
