@@ -429,7 +429,7 @@ recover_fault o before after (error.Limits e) h = absurd h
 recover_fault_by : (o : RecoverOptions) (c : Config) (before after : Option (List ℕ)) (e : RunError) → IsConfigAt o.config c
     → IsRecoverFaultBy c o.journal.now before after e → IsRecoverFault o before after e
 recover_fault_by o c before after e stated h = elim h [
-  inl fault ↦ recover_fault o before after e fault
+  | inl fault ↦ recover_fault o before after e fault
   | inr fault ↦ subst (IsRecoverFault o before after) (sym fault.1) (c, stated, fault.2)
 ]
 

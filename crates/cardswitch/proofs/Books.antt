@@ -99,7 +99,7 @@ pub run_or_book : (o : RunOptions) (c : Config) (before after : Option (List ℕ
     → IfErr told (IsRunFaultBy o c before after)
 run_or_book o c before after ended (Ok u) limit h told = tt
 run_or_book o c before after ended (Err e) limit h told = elim told [
-  inl same ↦ subst (λ (r : Result (Unit {0}) RunError). IfErr r (IsRunFaultBy o c before after)) same h
+  | inl same ↦ subst (λ (r : Result (Unit {0}) RunError). IfErr r (IsRunFaultBy o c before after)) same h
   | inr fault ↦ failure_cases (IsRunFaultBy o c before after) c e (λ r is. (limit, is before after)) fault
 ]
 
@@ -108,6 +108,6 @@ pub recovery_or_book : (c : Config) (path : List ℕ) (before after : Option (Li
     → IfErr told (IsRecoverFaultBy c path before after)
 recovery_or_book c path before after ended (Ok u) h told = tt
 recovery_or_book c path before after ended (Err e) h told = elim told [
-  inl same ↦ inl (subst (λ (r : Result (Unit {0}) RunError). IfErr r (IsFileFault path before after)) same h)
+  | inl same ↦ inl (subst (λ (r : Result (Unit {0}) RunError). IfErr r (IsFileFault path before after)) same h)
   | inr fault ↦ failure_cases (IsRecoverFaultBy c path before after) c e (λ r is. inr (r, refl, is before after)) fault
 ]

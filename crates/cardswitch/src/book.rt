@@ -107,11 +107,7 @@ pub fn without_book(config: &Config) -> Result<(), RunError>
 
 /// How a run ended: where its book refused, the error says so. (A participant has no other refusal than that no memory is
 /// left.)
-pub fn told(
-    ended: Result<(), RunError>,
-    fault: &BookFault,
-    config: &Config,
-) -> Result<(), RunError>
+pub fn told(ended: Result<(), RunError>, fault: &BookFault, config: &Config) -> Result<(), RunError>
     ensures done { OnOk result (ended ≡ Ok tt) }
     ensures failed { IfErr result (λ e.
         (ended ≡ Err e) ⊎ IsBookFailure config.now.limits.book e) }

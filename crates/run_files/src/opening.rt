@@ -6,7 +6,6 @@ ghost use Rattle.sw_lasting.specs.Limit.{HasLimit};
 use crate::database_file::{is_foreign, lay};
 use crate::error::LimitsError;
 use book_store::BookFile;
-use sw_card_limits::CardLimits;
 use cli_config::Period;
 use lasting_book::LastingBook;
 use sqlite::{Connection, Error, ErrorCode};
@@ -17,6 +16,7 @@ use std::io::{self, ErrorKind};
 use std::random::RandomSource;
 use std::sync::Arc;
 use std::time::Clock;
+use sw_card_limits::CardLimits;
 use sw_lasting::{BookFault, LastingLimits};
 
 /// The seconds of a day.
