@@ -1,6 +1,7 @@
 //! A limits book that is read from a copy of its files.
 
 use crate::error::LimitsError;
+use crate::opening::book_of;
 use book_store::BookFile;
 use journal_copy::disks_of;
 use sqlite::{Connection, Options};
@@ -21,10 +22,7 @@ pub fn copied_book(
         return Err(LimitsError::NotABook);
     }
     match Connection::open_files(alloc, disks_of(alloc, db, log)?, Options::new(SEED)) {
-        Ok(conn) => match BookFile::open(alloc, conn, &[0; 32]) {
-            Ok(file) => Ok(file),
-            Err((error, _)) => Err(LimitsError::from(error)),
-        },
+        Ok(conn) => book_of(alloc, conn, &[0; 32]),
         Err((error, _)) => Err(LimitsError::Database(error)),
     }
 }

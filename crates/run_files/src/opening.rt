@@ -1,6 +1,6 @@
 //! How a limits book is opened.
 
-ghost use Rattle.std.specs.Prelude.{IfOk};
+ghost use Rattle.std.specs.Prelude.{◌≡◌, IfOk};
 ghost use Rattle.sw_lasting.specs.Limit.{HasLimit};
 
 use crate::database_file::{is_foreign, lay};
@@ -8,7 +8,7 @@ use crate::error::LimitsError;
 use book_store::BookFile;
 use cli_config::Period;
 use lasting_book::LastingBook;
-use sqlite::{Connection, Error, ErrorCode};
+use sqlite::{Alter, Connection, Error, ErrorCode};
 use sqlite_std_file::File;
 use sqlite_store::FileStore;
 use std::alloc::Global;
@@ -43,6 +43,34 @@ fn fault_of(error: Error, read: io::Result<bool>, laid: io::Result<()>) -> Limit
     }
 }
 
+// The book of a connection. (For any store: what a refusal hands back is dropped here, and how a store of files is
+// dropped need not be proved again.)
+pub(crate) fn book_of<S: Alter + Drop>(
+    alloc: Global,
+    conn: Connection<S>,
+    salt: &[u8; 32],
+) -> Result<BookFile<S>, LimitsError> {
+    match BookFile::open(alloc, conn, salt) {
+        Ok(file) => Ok(file),
+        Err((error, _)) => Err(LimitsError::from(error)),
+    }
+}
+
+// The book of days over a file.
+fn days_of<S: Alter + Drop>(
+    alloc: Global,
+    limit: u64,
+    file: BookFile<S>,
+    reach: u32,
+) -> Result<LastingBook<S>, LimitsError>
+    ensures limit { IfOk result (λ book. book.days.limit ≡ limit) }
+{
+    match LastingBook::open(alloc, limit, file, reach) {
+        Ok(book) => Ok(book),
+        Err((error, _)) => Err(LimitsError::from(error)),
+    }
+}
+
 /// Opens the book in the file at a path. If there is no file, one is made, with a salt of the system's random bytes.
 pub fn open_book(
     alloc: Global,
@@ -60,10 +88,7 @@ pub fn open_book(
     // If no file was made here, the book is made when it is opened.
     let laid = lay(rt, alloc, path);
     match Connection::open(rt, path) {
-        Ok(conn) => match BookFile::open(alloc, conn, &salt) {
-            Ok(file) => Ok(file),
-            Err((error, _)) => Err(LimitsError::from(error)),
-        },
+        Ok(conn) => book_of(alloc, conn, &salt),
         Err(error) => Err(fault_of(error, read, laid)),
     }
 }
@@ -71,20 +96,20 @@ pub fn open_book(
 // The least id from 1 on that no item of the file reaches. (The file shows the items after an id, so it is looked for by
 // halves.)
 fn first_id(file: &mut BookFile<FileStore<File>>) -> Result<u64, LimitsError> {
-    let mut low = 0;
+    let mut low = 0i64;
     let mut high = i64::MAX;
     for _ in 0..64 {
         if low >= high {
             break;
         }
-        let middle = low + (high - low) / 2;
+        let middle = low.saturating_add(high.saturating_sub(low) / 2);
         if file.next(middle, 0, 1)?.is_empty() {
             high = middle;
         } else {
-            low = middle + 1;
+            low = middle.saturating_add(1);
         }
     }
-    Ok(low as u64 + 1)
+    Ok(u64::try_from(low).unwrap_or(0).saturating_add(1))
 }
 
 // The day after the last one of the file's items; 1 if it has none.
@@ -125,11 +150,9 @@ pub fn open_limits(
         Period::Day => (day_by_clock(rt)?, Some(*rt)),
         Period::Run => (day_after(&mut file)?, None),
     };
-    match LastingBook::open(alloc, limit, file, today.saturating_sub(1)) {
-        Ok(book) => Ok(OpenedLimits {
-            limits: CardLimits::new(LastingLimits::new(alloc, book, clock, today, fault)),
-            first_id,
-        }),
-        Err((error, _)) => Err(LimitsError::from(error)),
-    }
+    let book = days_of(alloc, limit, file, today.saturating_sub(1))?;
+    Ok(OpenedLimits {
+        limits: CardLimits::new(LastingLimits::new(alloc, book, clock, today, fault)),
+        first_id,
+    })
 }

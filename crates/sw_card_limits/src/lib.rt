@@ -24,8 +24,7 @@ impl Drop for CardLimits {
 impl CardLimits {
     /// The same participant.
     pub fn new(limits: LastingLimits<FileStore<File>, HostRuntime>) -> CardLimits
-        ensures { ⟦<CardLimits as Participant>⟧.object result
-            ≡ ⟦<LastingLimits<FileStore<File>, HostRuntime> as Participant>⟧.object limits }
+        ensures { result.limits ≡ limits }
     {
         CardLimits { limits }
     }

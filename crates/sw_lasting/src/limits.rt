@@ -66,8 +66,8 @@ impl<S: Alter + Drop, C: Clock + Drop> LastingLimits<S, C> {
         today: u32,
         fault: Arc<BookFault>,
     ) -> LastingLimits<S, C>
-        ensures { ⟦<LastingLimits<S, C> as Participant>⟧.object result
-            ≡ shown_keeping (keeping book today) }
+        ensures book { result.book ≡ book }
+        ensures today { result.today ≡ today }
     {
         LastingLimits {
             alloc,
