@@ -5,9 +5,9 @@ ghost use Rattle.sw_book.specs.Most.{max_limit};
 ghost use Rattle.run_switch.specs.Links.{query_name, sender_with};
 ghost use Rattle.run_switch.specs.Stations.{limit_over};
 
-use sw_card_limits::CardLimits;
 use run_responses::ResponseOrder;
 use std::alloc::{AllocError, Global};
+use sw_card_limits::CardLimits;
 use sw_hosts::IssuerLink;
 use sw_issuers::{GroupLink, Sender};
 use sw_participant::{Sequence, Text};

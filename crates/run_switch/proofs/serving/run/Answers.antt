@@ -1,4 +1,4 @@
-use Rattle.std.proofs.Common.{◌≡◌, ◌∙◌, ap, ℕ, List, Option, Result, IfOk, IfSome, OnErr, inl, refl, subst, sym}
+use Rattle.std.proofs.Common.{◌≡◌, ◌∙◌, ap, ℕ, List, Option, Result, Ok, IfOk, IfSome, OnErr, inl, inr, refl, subst, sym}
 use denote.Param.Object.{read_made}
 use Rattle.flow_model.specs.declared.flow.Flow.{Flow}
 use Rattle.sw_parts.specs.declared.route.Routing.{Routing}
@@ -26,7 +26,11 @@ use Rattle.sw_parts.specs.ShownBooks.{shown_book}
 use Rattle.run_switch.specs.contracts.named.named.{dyn-1-ghosts}
 use Rattle.run_switch.proofs.serving.run.OwnLists.{at-1-1, at-1-2, at-1-3, at-1-4, at-1-5, at-1-6, at-1-7, at-1-8, own-1, lawful-own-1}
 use Rattle.run_switch.proofs.serving.run.Hidden.{sends-own-1, syncs-own-1}
+use Rattle.run_switch.specs.Stations.{limit_over}
+use Rattle.sw_card_limits.specs.declared.CardLimits.{CardLimits}
+use Rattle.sw_lasting.specs.Keeping.{keeping, shown_keeping}
 use Rattle.run_switch.proofs.serving.run.Goals as goal
+use Rattle.run_switch.proofs.serving.run.Goals.{in-None, in-Ok-new, in-Err, in-Some, in-Ok-new-2, in-Err-new}
 
 -- what a run promises, of the sender that it was given
 abbrev RanBy : {R : Type 0} → ℕ → Result StreamEnd ServeError → Option R → (R → Option (List ℕ)) → Option ResponseOrder → Flow → ℕ → Seen → AdviceStep → ℕ → Option (List ℕ) →
@@ -73,6 +77,9 @@ returns-in_default-4-clause-stopped g c = inl (Keeps-refl _)
 
 pub returns-in_default-5-clause-stopped : goal.returns-in_default-5-clause-stopped
 returns-in_default-5-clause-stopped g c = inl (Keeps-refl _)
+
+pub returns-in_err-sender_over-clause-stopped : goal.returns-in_err-sender_over-clause-stopped
+returns-in_err-sender_over-clause-stopped g c = on_err_of c.from_residual.result (inl (Keeps-refl _))
 
 pub returns-in_err-query-clause-stopped : goal.returns-in_err-query-clause-stopped
 returns-in_err-query-clause-stopped g c = on_err_of c.from_residual-in_err-query.result (inl (Keeps-refl _))
@@ -125,8 +132,45 @@ run-requires-clause-check g c = λ κs within. record {
   within = λ id act o x reply p y h. rw (c.into_dyn_box-2.ensures.0) at (c.in-Ok-Ok-Ok-2.ensures.within id act o x reply p y h);
 }
 
+-- what a station has that was made, of all that the call that made it may have ended with
+at_ok : {A E : Type 0} (P : A → Type 0) (x : A) (made called : Result A E) → made ≡ Ok x → made ≡ called → IfOk called P → P x
+at_ok P x made called is same h = subst (λ (r : Result _ _). IfOk r P) (sym same ∙ is) h
+
 pub run-requires-clause-limits : goal.run-requires-clause-limits
-run-requires-clause-limits g c = λ κs within. let h = c.match-lasting-2 in ?
+run-requires-clause-limits g c = λ κs within. elim c.match-lasting-2.branch [
+  | in-None w ↦ elim w.match-new-2.branch [
+    | in-Ok-new v ↦
+        let same = w.limits-is ∙ v.limits-is in
+        inl (record {
+          named = at_ok _ c.in-Ok-Ok-Ok-Ok.limits _ _ c.in-Ok-Ok-Ok-Ok.is-1 same v.named.ensures.named;
+          shows = at_ok _ c.in-Ok-Ok-Ok-Ok.limits _ _ c.in-Ok-Ok-Ok-Ok.is-1 same v.named.ensures.shows
+              ∙ (read_made (dyn-1-ghosts (own-1, lawful-own-1, sends-own-1, syncs-own-1)).0 _ at-1-1 refl _ (λ j w. j.1.object w) _ _ v.in-Ok-new.limits.value
+              v.into_dyn_box.ensures.1
+              ∙ (ap (λ (l : Limits). shown_book l.book) v.in-Ok-new.ensures.ok ∙ (w.new-in-None.ensures ∙ ap shown_book c.in-Ok.ensures.book)));
+          within = λ id act o x reply p y h. rw (v.into_dyn_box.ensures.0) at
+              (at_ok _ c.in-Ok-Ok-Ok-Ok.limits _ _ c.in-Ok-Ok-Ok-Ok.is-1 same v.named.ensures.within id act o x reply p y h);
+        })
+    | in-Err v ↦ absurd (at_ok (λ _. ⊥) c.in-Ok-Ok-Ok-Ok.limits _ _ c.in-Ok-Ok-Ok-Ok.is-1 (w.limits-is ∙ v.limits-is) tt)
+  ]
+  | in-Some w ↦ elim w.match-new-4.branch [
+    | in-Ok-new-2 v ↦
+        let same = w.limits-is ∙ v.limits-is in
+        inr (
+          keeping w.in-Some.limits.limits.book w.in-Some.limits.limits.today,
+          subst (λ (o : Option CardLimits). limit_over c.args.setup.limit o ≡ c.args.setup.limit) w.in-Some.is c.args.setup.same,
+          record {
+            named = at_ok _ c.in-Ok-Ok-Ok-Ok.limits _ _ c.in-Ok-Ok-Ok-Ok.is-1 same v.named-in-Ok-new-2.ensures.named;
+            shows = at_ok _ c.in-Ok-Ok-Ok-Ok.limits _ _ c.in-Ok-Ok-Ok-Ok.is-1 same v.named-in-Ok-new-2.ensures.shows
+                ∙ (read_made (dyn-1-ghosts (own-1, lawful-own-1, sends-own-1, syncs-own-1)).0 _ at-1-2 refl _ (λ j w. j.1.object w) _ _ v.in-Ok-new-2.limits.value
+                v.into_dyn_box-in-Ok-new-2.ensures.1
+                ∙ ap (λ (card : CardLimits). shown_keeping (keeping card.limits.book card.limits.today)) v.in-Ok-new-2.ensures.ok);
+            within = λ id act o x reply p y h. rw (v.into_dyn_box-in-Ok-new-2.ensures.0) at
+                (at_ok _ c.in-Ok-Ok-Ok-Ok.limits _ _ c.in-Ok-Ok-Ok-Ok.is-1 same v.named-in-Ok-new-2.ensures.within id act o x reply p y h);
+          },
+        )
+    | in-Err-new v ↦ absurd (at_ok (λ _. ⊥) c.in-Ok-Ok-Ok-Ok.limits _ _ c.in-Ok-Ok-Ok-Ok.is-1 (w.limits-is ∙ v.limits-is) tt)
+  ]
+]
 
 pub run-requires-clause-route : goal.run-requires-clause-route
 run-requires-clause-route g c = λ κs within. record {
