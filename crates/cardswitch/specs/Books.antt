@@ -1,5 +1,5 @@
 -- Why the limits book of a run refuses.
-use Rattle.std.specs.Prelude.{◌≡◌, ⊤, ⊥, ℕ, List, Option, Some}
+use Rattle.std.specs.Prelude.{◌≡◌, ⊤, ℕ, List, Option, Some}
 use Rattle.cli_config.specs.declared.config.Config.{Config}
 use Rattle.cardswitch.specs.declared.book.BookRefusal.{BookRefusal}
 use Rattle.cardswitch.specs.declared.book.BookRefusal.TheVariants as book

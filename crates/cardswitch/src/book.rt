@@ -1,6 +1,6 @@
 //! The limits book of a run.
 
-ghost use Rattle.std.specs.Prelude.{◌≡◌, ◌⊎◌, Ok, Err, IfErr, IfOk, OnOk, tt};
+ghost use Rattle.std.specs.Prelude.{◌≡◌, ◌⊎◌, Ok, Err, IfErr, IfOk, OnOk};
 ghost use Rattle.run_setup.specs.Plans.{plain_setup};
 ghost use Rattle.cardswitch.specs.Books.{IsBookFailure, IsUnopenedBook};
 
