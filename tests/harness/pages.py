@@ -167,6 +167,7 @@ FORMS = [
     ("CREATE TABLE ", schema_case),
     ("sqlite> ", turned_case),
     ("[[host]]", config_case),
+    ("[limits]", config_case),
     ("./test", elsewhere),
     ("field = [", elsewhere),
     ("examples/hosts/try.sh ", elsewhere),
