@@ -8,6 +8,7 @@ use Rattle.sw_hosts.specs.declared.issuer_link.IssuerLink.{IssuerLink}
 use Rattle.run_setup.specs.Plans.{IsSetUp, limit_of, plain_setup}
 use Rattle.run_switch.specs.declared.setup.Setup.{Setup}
 use Rattle.cardswitch.specs.Books.{IsBookFailure, IsBookFault, IsUnopenedBook}
+use Rattle.cardswitch.specs.Checking.{IsRunMistake}
 use Rattle.cardswitch.specs.Runs.{IsFileFault, IsRecoverFaultBy, IsRunFaultBy}
 use Rattle.cardswitch.specs.declared.book.BookRefusal.{BookRefusal}
 use Rattle.cardswitch.specs.declared.book.BookRefusal.TheVariants as book
@@ -111,3 +112,29 @@ recovery_or_book c path before after ended (Err e) h told = elim told [
   | inl same ↦ inl (subst (λ (r : Result (Unit {0}) RunError). IfErr r (IsFileFault path before after)) same h)
   | inr fault ↦ failure_cases (IsRecoverFaultBy c path before after) c e (λ r is. inr (r, refl, is before after)) fault
 ]
+
+-- a mistake in the set-up is refused before anything is written
+pub mistaken : (o : RunOptions) (c : Config) (before : Option (List ℕ)) (e : RunError) → limit_of o c ≤ max_limit → IsRunMistake o.config c e
+    → IsRunFaultBy o c before before e
+mistaken o c before (error.SetUp e) limit h = (limit, h, refl)
+mistaken o c before error.OutOfMemory limit h = λ over. refl
+mistaken o c before (error.FlowFile p cause) limit h = absurd h
+mistaken o c before (error.ConfigFile p cause) limit h = absurd h
+mistaken o c before (error.LogFile p cause) limit h = absurd h
+mistaken o c before (error.ProfileFile p cause) limit h = absurd h
+mistaken o c before (error.Serve e) limit h = absurd h
+mistaken o c before (error.BadLimit n) limit h = absurd h
+mistaken o c before (error.JournalFile p cause) limit h = absurd h
+mistaken o c before (error.Journal p cause) limit h = absurd h
+mistaken o c before (error.Engine p cause) limit h = absurd h
+mistaken o c before error.Refused limit h = absurd h
+mistaken o c before (error.Recode e) limit h = absurd h
+mistaken o c before (error.Read e) limit h = absurd h
+mistaken o c before (error.Write e) limit h = absurd h
+mistaken o c before (error.Step e) limit h = absurd h
+mistaken o c before (error.Input e) limit h = absurd h
+mistaken o c before (error.Text e) limit h = absurd h
+mistaken o c before (error.Limits e) limit h = absurd h
+
+pub short_of_memory : (o : RunOptions) (c : Config) (before : Option (List ℕ)) → IsRunFaultBy o c before before error.OutOfMemory
+short_of_memory o c before = λ over. refl

@@ -2,7 +2,7 @@ use Rattle.std.proofs.Common.{◌∙◌, Err, Some, ap, refl, sym}
 use Rattle.std.proofs.lemmas.Result.{err_from_is_err_and}
 use Rattle.cardswitch.proofs.Answering.{answered_by_code, answered_by_file, answered_in_memory, refused_in_file, refused_in_memory, taken, takes_code, unlogged}
 use Rattle.cardswitch.proofs.Answering.{unopened}
-use Rattle.cardswitch.proofs.Books.{run_or_book, set_up_over, unopened_book, was_done}
+use Rattle.cardswitch.proofs.Books.{mistaken, run_or_book, set_up_over, short_of_memory, unopened_book, was_done}
 use Rattle.cardswitch.proofs.requests.answer_by.Goals as goal
 
 pub returns-in-Some-clause-answered : goal.returns-in-Some-clause-answered
@@ -68,9 +68,22 @@ returns-in_err-setup-in-Some-clause-failed g c =
     (rw (error.1, error.2) (unopened_book c.args.options.now c.in_ok-config.config _ c.in_err-setup-in-Some.field-0.0 c.in_ok-setup.ensures.set_up.within
     c.in_err-setup-in-Some.ensures.failed))
 
-pub returns-in_err-without_book-clause-failed : goal.returns-in_err-without_book-clause-failed
-returns-in_err-without_book-clause-failed g c =
-    let error = err_from_is_err_and c.from_residual-in_err-without_book.result c.from_residual-in_err-without_book.ensures.1 in
+pub returns-in_err-without_book-in-None-clause-failed : goal.returns-in_err-without_book-in-None-clause-failed
+returns-in_err-without_book-in-None-clause-failed g c =
+    let error = err_from_is_err_and c.from_residual-in_err-without_book-in-None.result c.from_residual-in_err-without_book-in-None.ensures.1 in
     taken _ c.args.flow c.args.config c.in_ok-flow.flow c.in_ok-config.config c.in_ok-flow.was c.in_ok-config.was
-    (rw (error.1, error.2) (unopened_book c.args.options.now c.in_ok-config.config _ c.in_err-without_book.field-0.0 c.in_ok-setup.ensures.set_up.within
-    c.in_err-without_book.ensures.failed))
+    (rw (error.1, error.2) (unopened_book c.args.options.now c.in_ok-config.config _ c.in_err-without_book-in-None.field-0.0
+    c.in_ok-setup.ensures.set_up.within c.in_err-without_book-in-None.ensures.failed))
+
+pub returns-in_err-code-clause-failed : goal.returns-in_err-code-clause-failed
+returns-in_err-code-clause-failed g c =
+    let error = err_from_is_err_and c.from_residual-in_err-code.result c.from_residual-in_err-code.ensures.1 in
+    taken _ c.args.flow c.args.config c.in_ok-flow.flow c.in_ok-config.config c.in_ok-flow.was c.in_ok-config.was
+    (rw (error.1, error.2) (mistaken c.args.options.now c.in_ok-config.config _ c.in_err-code.field-0.0 c.in_ok-setup.ensures.set_up.within
+    c.in_err-code.ensures.refused))
+
+pub returns-in_err-fault-in-Some-clause-failed : goal.returns-in_err-fault-in-Some-clause-failed
+returns-in_err-fault-in-Some-clause-failed g c =
+    let error = err_from_is_err_and c.from_residual-in_err-fault-in-Some.result c.from_residual-in_err-fault-in-Some.ensures.1 in
+    taken _ c.args.flow c.args.config c.in_ok-flow.flow c.in_ok-config.config c.in_ok-flow.was c.in_ok-config.was
+    (rw (error.1, error.2) (short_of_memory c.args.options.now c.in_ok-config.config _))

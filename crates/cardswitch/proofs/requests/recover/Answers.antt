@@ -9,4 +9,4 @@ returns-clause-recovered g c = recovered _ c.code_at-code.result c.config_for-co
 pub returns-clause-failed : goal.returns-clause-failed
 returns-clause-failed g c = recovery_refused c.code_at-code.result c.config_for-config.result c.args.options.now _ _ c.recover_by.result
     c.code_at-code.ensures.failed c.config_for-config.ensures.failed c.recover_by.ensures.no_flow c.recover_by.ensures.no_config
-    c.recover_by.ensures.failed
+    c.config_for-config.ensures.stated c.recover_by.ensures.failed
