@@ -1,5 +1,5 @@
 //! Why a run of the program ends early, and with which exit status.
-ghost use Rattle.std.specs.Prelude.{◌≡◌};
+ghost use Rattle.std.specs.Prelude.{◌≡◌, ◌≢◌};
 ghost use Rattle.cardswitch.specs.Errors.{error_of_check, error_of_encode, error_of_flows, error_of_io};
 ghost use Rattle.cardswitch.specs.Errors.{error_of_recode, error_of_serve, error_of_setup, error_of_step};
 ghost use Rattle.cardswitch.specs.Errors.{error_at, run_status};
@@ -145,7 +145,8 @@ impl RunError {
     /// The exit status of a run that ends with this error: 1 for a refused input and for failed reads and writes,
     /// 3 if a journal or a limits book refused, 4 if memory ran out.
     pub fn status(&self) -> u8
-        ensures { result ≡ run_status self.now }
+        ensures status { result ≡ run_status self.now }
+        ensures failed { result ≢ 0 }
     {
         match self {
             RunError::OutOfMemory => 4,

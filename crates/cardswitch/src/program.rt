@@ -62,7 +62,8 @@ pub fn run<
 
 /// Reports an error, and gives its exit status.
 fn report<E: Write>(error: &RunError, err: &mut E) -> u8
-    ensures { result ≡ run_status error.now }
+    ensures status { result ≡ run_status error.now }
+    ensures failed { result ≢ 0 }
 {
     // If standard error takes nothing, the status still reports the error.
     let _ = writeln!(err, "cardswitch: {error}");
