@@ -28,7 +28,6 @@ CONFIG = """
 name = "alpha"
 to = "alpha.to"
 from = "alpha.from"
-timeout_ms = 1500
 {alpha}
 
 [[host]]
@@ -164,14 +163,14 @@ def written(room, name, text):
 
 
 @contextlib.contextmanager
-def switch(program, room, *words, acquirer=None, host=None, header=b"", run=""):
-    """A run that has begun, and the host of `alpha`, which listens. Both may have a profile."""
+def switch(program, room, *words, acquirer=None, host=None, header=b"", run="", alpha="timeout_ms = 1500\n"):
+    """A run that has begun, and the host of `alpha`, which listens. Both may have a profile, and more in their tables."""
     for name, profile in ("acquirer.toml", acquirer), ("host.toml", host):
         if profile:
             written(room, name, profile.text)
-    alpha = 'profile = "host.toml"' if host else ""
+    alphas = 'profile = "host.toml"\n' if host else ""
     its = 'profile = "acquirer.toml"\n' if acquirer else ""
-    written(room, "config.toml", CONFIG.format(alpha=alpha, run=its + run))
+    written(room, "config.toml", CONFIG.format(alpha=alphas + alpha, run=its + run))
     wire = SpelledWire(room, "alpha", host or Ascii)
     wire.listen()
     began = SpelledRun(program, room, acquirer or Ascii, *words, header=header)
@@ -276,18 +275,65 @@ def unwritten_responses(program, room):
             wanted(f"the line of message 2 in {err}", err.count(told), 1)
 
 
+def more_of(message, more):
+    """A message with these fields too."""
+    mti, fields = messages.decode(message)
+    return messages.encode(mti, fields | more)
+
+
+def reversal(message):
+    """The 0420 of a request: its type, STAN, date and time are in field 90."""
+    _, fields = messages.decode(message)
+    return messages.encode(b"0420", response_to(message, {3: fields[3], 90: b"0100" + fields[11] + fields[7] + b"0" * 22}))
+
+
 def unwritten_requests(program, room):
-    """A request that the host's profile cannot write is told and not sent: the switch stands in, and the next request reaches the host."""
-    host = example("iso87binary", 49)
+    """A request that the host's profile cannot write is told, counted and not sent: the switch stands in at once. The host is not taken
+    as silent: it is asked the next request, and sent the reversal that has no such field."""
+    host, alpha = example("iso87binary", 22), "timeout_ms = 15000\nretry_ms = 60000\n"
     for words in THREADS:
-        with tempfile.TemporaryDirectory(dir=room) as inner, switch(program, inner, *words, host=host) as (run, wire):
-            run.send(request(1, 400))
-            wanted("the stand-in's response", messages.decode(run.message())[1].get(38), b"SI0001")
-            wire.hang_up()
+        with tempfile.TemporaryDirectory(dir=room) as inner, switch(program, inner, *words, "--stats", host=host, alpha=alpha) as (run, wire):
+            for stan in 1, 3:
+                want = asked(run, wire, stan)
+                wanted("the response", messages.decode(run.message()), (b"0110", want))
+                if stan == 1:
+                    began = time.monotonic()
+                    # (its amount is over the stand-in's)
+                    run.send(more_of(request(2), {22: b"012"}))
+                    wanted("the stand-in's response", code(run.message()), b"91")
+                    wanted("it came at once", time.monotonic() - began < 5, True)
             run.process.stdin.close()
-            run.process.wait(SECONDS)
-            told = b"cardswitch: to host alpha: message 1: field 49"
-            wanted("the line of message 1", run.process.stderr.read().count(told), 1)
+            wire.gets(reversal(request(2)))
+            wire.answers(reversal(request(2)))
+            err = run.end()
+            wanted("the line of message 2", err.count(b"cardswitch: to host alpha: message 2: field 22"), 1)
+            counts = b"host alpha: not-asked=0 echo-tests=0 unanswered=0 late=0 unreadable=0 dropped=1\n"
+            wanted(f"the counts in {err}", err.count(counts), 1)
+            wanted("lines of a silent host", err.count(b"no answer in time"), 0)
+
+
+def unwritten_advices(program, room):
+    """An advice that the host's profile cannot write is counted too, and stays stored: the next run, by a better profile, sends it."""
+    words, message = ["--stats", "--journal", os.path.join(room, "journal.db")], more_of(request(2, 400), {22: b"012"})
+    _, fields = messages.decode(message)
+    # (the last digit of a repeat's type is 1)
+    advice = messages.encode(b"0121", fields | {38: b"SI0002", 39: b"00"})
+    with tempfile.TemporaryDirectory(dir=room) as inner, switch(
+        program, inner, *words, host=example("iso87binary", 22), alpha="timeout_ms = 15000\n"
+    ) as (run, wire):
+        want = asked(run, wire, 1)
+        wanted("the response", messages.decode(run.message()), (b"0110", want))
+        run.send(message)
+        wanted("the stand-in's response", messages.decode(run.message())[1].get(38), b"SI0002")
+        run.process.stdin.close()
+        wire.gets(reversal(message))
+        wire.answers(reversal(message))
+        wanted("the counts", run.end().count(b" dropped=2\n"), 1)
+    with tempfile.TemporaryDirectory(dir=room) as inner, switch(program, inner, *words, host=example("iso87binary")) as (run, wire):
+        run.process.stdin.close()
+        wire.gets(advice)
+        wire.answers(advice)
+        wanted("the counts", run.end().count(b" dropped=0\n"), 1)
 
 
 def unread_answers(program, room):
@@ -366,7 +412,8 @@ def files(program, room):
         wanted(f"check without field 90 in {name}", says("check")[0], status)
 
 
-CASES = [hosts, advices, acquirers, unread_requests, unwritten_responses, unwritten_requests, unread_answers, headers, bad_lengths, files]
+CASES = [hosts, advices, acquirers, unread_requests, unwritten_responses, unwritten_requests, unwritten_advices]
+CASES += [unread_answers, headers, bad_lengths, files]
 
 
 def main():

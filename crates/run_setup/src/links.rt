@@ -5,7 +5,7 @@ ghost use Rattle.cli_config.specs.declared.config.Wire.TheVariants.{Simulated};
 ghost use Rattle.run_setup.specs.Links.{AddsLink, AreLinksOf, host_link, host_query, named_state};
 ghost use Rattle.run_setup.specs.Links.{shown_link};
 ghost use Rattle.run_setup.specs.Reaches.{AreTimesOf, HasTimesOf, IsReachOf};
-ghost use Rattle.sw_hosts.specs.Hosts.{host_in_flight, host_times};
+ghost use Rattle.sw_hosts.specs.Hosts.{host_in_flight, host_profile, host_times};
 ghost use Rattle.sw_parts.specs.Queries.{shown_query};
 ghost use Rattle.run_setup.specs.Links.{side_state, wire_state};
 ghost use Rattle.run_setup.specs.Plans.{links_of, own_links, own_queries, queries_of, routes_of};
@@ -13,8 +13,9 @@ ghost use Rattle.run_setup.specs.Plans.{routing_of, unasked, unasked_of};
 ghost use Rattle.run_setup.specs.Profiles.{IsHostsFault, IsProfileFault, wire_profile};
 
 use crate::error::SetupError;
-use crate::recoded::{ReadRecoded, WriteRecoded, host_passages};
+use crate::recoded::{ReadRecoded, WriteRecoded, host_passages, host_profile};
 use cli_config::{Config, Route, Wire, WireTimes};
+use iso_dialect::Profile;
 use run_switch::{NamedLink, SwitchLink, default_routes};
 use std::alloc::{AllocError, Global};
 use std::sync::Wait;
@@ -66,6 +67,7 @@ struct Reach {
     from: ReadRecoded,
     times: HostTimes,
     in_flight: usize,
+    profile: Option<Profile>,
 }
 
 // How a host of this name is reached by streams; `None` if it is simulated.
@@ -88,6 +90,7 @@ fn reach_of(
             profile,
         } => {
             let passages = host_passages(alloc, rt, name, profile)?;
+            let profile = host_profile(alloc, rt, profile)?;
             Ok(Some(Reach {
                 to: WriteRecoded {
                     rt: *rt,
@@ -103,6 +106,7 @@ fn reach_of(
                 },
                 times: times_of(times),
                 in_flight: *in_flight as usize,
+                profile,
             }))
         }
     }
@@ -117,14 +121,16 @@ impl Reach {
     ) -> Result<Host, AllocError>
         ensures times { IfOk result (λ host. host_times host ≡ self.times) }
         ensures in_flight { IfOk result (λ host. host_in_flight host ≡ self.in_flight) }
+        ensures profile { IfOk result (λ host. host_profile host ≡ self.profile) }
     {
         let Reach {
             to,
             from,
             times,
             in_flight,
+            profile,
         } = self;
-        Host::start(threads, alloc, to, from, times, in_flight)
+        Host::start(threads, alloc, to, from, times, in_flight, profile)
     }
 }
 

@@ -1,6 +1,6 @@
 //! The streams of a host and of an acquirer, whose messages may be recoded.
 
-ghost use Rattle.std.specs.Prelude.{◌≡◌, IfErr, IfNone, IfOk};
+ghost use Rattle.std.specs.Prelude.{◌≡◌, is_some, IfErr, IfNone, IfOk};
 ghost use Rattle.run_recode.specs.Passages.{plain};
 ghost use Rattle.run_setup.specs.Profiles.{IsHostFault, IsProfileFault, IsProfilesFault, IsRefusalOf};
 ghost use Rattle.run_setup.specs.Profiles.{wire_profile};
@@ -10,8 +10,8 @@ use crate::plan::header;
 use cli_config::{Config, Wire};
 use cli_io::IoError;
 use cli_options::choice::RunOptions;
-use cli_recode::ProfileLoadError;
-use iso_dialect::Peer;
+use cli_recode::{ProfileLoadError, two_profiles_at};
+use iso_dialect::{Peer, Profile};
 use run_recode::{
     Edges, Passage, Passages, RecodedReader, RecodedWriter, passages_at, reader_over, writer_over,
 };
@@ -134,7 +134,25 @@ pub fn host_passages(
     passages(alloc, rt, profile, Peer::Host, edges)
 }
 
-// The same of the acquirer, whose messages come after a header of this many bytes.
+/// The profile of a host, if it has one. Its links look at it before they wait for an answer.
+pub fn host_profile(
+    alloc: Global,
+    rt: &HostRuntime,
+    path: &Option<Text>,
+) -> Result<Option<Profile>, SetupError>
+    ensures given { IfOk result (λ p. is_some p ≡ is_some path.now) }
+    ensures refused { IfErr result (IsProfileFault path.now) }
+{
+    let Some(path) = path else {
+        return Ok(None);
+    };
+    match two_profiles_at(alloc, rt, path.as_str(), Peer::Host) {
+        Ok(files) => Ok(Some(files.from.profile)),
+        Err(cause) => Err(refusal(path, cause)),
+    }
+}
+
+// The passages of the acquirer, whose messages come after a header of this many bytes.
 fn acquirer_passages(
     alloc: Global,
     rt: &HostRuntime,

@@ -3,3 +3,4 @@ pub mod HostWays
 pub mod Hosts
 pub mod Issuers
 pub mod SharedMoments
+pub mod Writable

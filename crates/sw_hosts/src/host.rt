@@ -8,6 +8,7 @@ use crate::link::HostLink;
 use crate::opener::{OpenReader, OpenWriter};
 use crate::shared::Shared;
 use crate::threads::HostThread;
+use iso_dialect::Profile;
 use std::alloc::{AllocError, Global};
 use std::sync::{Arc, Wait};
 use std::thread::{self, Threads};
@@ -36,7 +37,8 @@ impl Drop for Host {
 
 impl Host {
     /// Starts the threads of a host, with both directions closed: the first message that is sent has
-    /// them opened. At most `in_flight` requests, from 1, are under way at the host at once. It is refused if no
+    /// them opened. At most `in_flight` requests, from 1, are under way at the host at once. With a profile, what it
+    /// cannot write is handed to the writer of `to` all the same, and nobody waits for its answer. It is refused if no
     /// memory or no thread can be had.
     pub fn start<
         R: Threads + Wait + Clock + Clone + Drop + Send + 'static,
@@ -49,11 +51,13 @@ impl Host {
         from: I,
         times: HostTimes,
         in_flight: usize,
+        profile: Option<Profile>,
     ) -> Result<Host, AllocError>
         ensures times { IfOk result (λ host. (arc_value host.shared).times ≡ times) }
         ensures in_flight { IfOk result (λ host. (arc_value host.shared).in_flight ≡ in_flight) }
+        ensures profile { IfOk result (λ host. (arc_value host.shared).profile ≡ profile) }
     {
-        let shared = Arc::new(alloc, Shared::new(alloc, times, in_flight)?)?;
+        let shared = Arc::new(alloc, Shared::new(alloc, times, in_flight, profile)?)?;
         let (rt_to, shared_to) = (rt.clone()?, Arc::try_clone(&shared)?);
         thread::spawn(rt, move || {
             let thread = HostThread {

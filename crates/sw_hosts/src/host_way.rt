@@ -1,8 +1,9 @@
 //! The way over the threads of a host.
 
-ghost use Rattle.std.specs.Prelude.{◌≡◌, ⊤, nat_lt, IfOk, IfSome, Some};
+ghost use Rattle.std.specs.Prelude.{◌≡◌, ⊤, true, nat_lt, IfOk, IfSome, Some};
 ghost use Rattle.std.specs.Arc.{arc_value};
 ghost use Rattle.sw_hosts.specs.HostWays.{WasEntered, WasForgotten, WasHanded};
+ghost use Rattle.sw_hosts.specs.Writable.{IsWritable};
 ghost use Rattle.sw_wire.specs.Keyed.{key_in};
 ghost use Rattle.sw_wire.specs.Looks.{answer_in};
 
@@ -129,21 +130,53 @@ impl<C: Clock + Drop> HostWay<C> {
         }
     }
 
-    // Hands a frame to the thread that writes; whether it took the frame. None is written while no answer can be
-    // read: the host would act on a request that the switch stands in for.
-    fn hand_over(&self, frame: Frame) -> bool {
-        let (to, from) = (self.shared.to.state(), self.shared.from.state());
-        if to != DirectionState::Open || from == DirectionState::Closed {
-            self.shared.state.note(HostSign::Unsent);
-            return false;
+    // Puts a frame into the outbox, if there is room; whether there was. One that cannot be written is never too late:
+    // nobody waits for its answer.
+    fn put(&self, frame: Frame, is_writable: bool) -> bool {
+        let mut frame = frame;
+        if !is_writable {
+            frame.deadline = Moment::LAST;
         }
         let Some(mut outbox) = locked(&self.clock, &self.shared.outbox) else {
             return false;
         };
         let is_put = outbox.put(frame);
-        drop(outbox);
-        self.shared.to.ring();
+        if is_put && !is_writable {
+            self.shared.note_unwritable();
+        }
         is_put
+    }
+
+    // Waits until the writer has told why, but not for long: the run may end after this message.
+    fn await_told(&self) {
+        let deadline = Moment::now(&self.clock).after(Duration::from_millis(LOCKING));
+        let mut naps = Naps::new();
+        for _ in 0..u64::MAX {
+            if self.shared.has_told() || Moment::now(&self.clock).is_past(deadline) {
+                return;
+            }
+            naps.sleep(&self.clock);
+        }
+    }
+
+    // Hands a frame to the thread that writes; whether it took the frame, and can write it. None is written while no
+    // answer can be read: the host would act on a request that the switch stands in for. A frame that cannot be
+    // written is handed over too, since the writer tells why.
+    fn hand_over(&self, frame: Frame) -> bool
+        ensures { result ≡ true → IsWritable (arc_value self.now.shared).profile frame }
+    {
+        let (to, from) = (self.shared.to.state(), self.shared.from.state());
+        if to != DirectionState::Open || from == DirectionState::Closed {
+            self.shared.state.note(HostSign::Unsent);
+            return false;
+        }
+        let is_writable = self.shared.writes(&frame);
+        let is_put = self.put(frame, is_writable);
+        self.shared.to.ring();
+        if !is_writable {
+            self.await_told();
+        }
+        is_put && is_writable
     }
 
     // The answer with the key, if it has come.
@@ -194,7 +227,11 @@ impl<C: Clock + Copy + Drop> Way for HostWay<C> {
     }
 
     #[tactic(auto, unfolding(crate::specs::HostWays::WasHanded))]
-    fn send(&mut self, key: Option<Key>, frame: Frame) -> Option<Sent> {
+    fn send(&mut self, key: Option<Key>, frame: Frame) -> Option<Sent>
+        ensures handed { WasHanded self.old key frame result self.new }
+        ensures writable { IfSome result (λ sent.
+            IsWritable (arc_value self.old.shared).profile frame) }
+    {
         let seen = self.shared.seen();
         if self.hand_over(frame) {
             return Some(seen);

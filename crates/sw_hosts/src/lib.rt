@@ -27,10 +27,12 @@
 //!   (`Sends`). It receives what the last look over the way showed. This holds of every `Way`. Of the way over a
 //!   host's threads, `HostWay`, contracts say which calls were made, and that an answer has the key that is waited
 //!   for. That it opens, puts the frame into the outbox, looks and sleeps is only tested.
+//! - Over `HostWay` an answer is waited for only if the host's profile, where it has one, can write the message
+//!   (`IsWritable`). `Shared::writes` says no only of what is no message or has a field that the profile cannot write.
 //! - A message to an `IssuerLink` of a host is sent over its `HostLink` once (`SendsToHost`).
-//! - A host has the times and the number of requests that may be under way which it is given
+//! - A host has the times, the number of requests that may be under way and the profile which it is given
 //!   (`Host::start`), and its links and reports share these with it (`Host::link`, `host_report`). That
-//!   its threads, deadlines and links go by them is only tested.
+//!   its threads and deadlines go by the first two is only tested.
 //! - A host's link that `beside` gives is in the one state that links to hosts have, and no send and no
 //!   receive changes it. That it leads to the same host is only tested.
 //! - What is counted is only tested, and so is that the threads and links note the signs of a host.
@@ -48,6 +50,9 @@
 //! - **For contracts, a message to a host that cannot be reached is sent**, and no answer is received,
 //!   at once. So the stand-in comes without a delay, and a link refuses out of memory alone.
 //!   Alternative: a refusal of its own, for which each participant would need a case.
+//! - **What the host's profile cannot write is handed over too**: the writer, which knows the message's number, tells
+//!   why. The link waits for that, for 100 ms at most, since the run may end next. It counts the message as dropped
+//!   itself, so that the run's last counts have it.
 //! - **A direction is opened at most once a second**, and messages wait for that up to 100
 //!   milliseconds from the order on, whichever of them gave it: long enough for a host that is there,
 //!   and short enough for one that is not. An opening that waits is not ordered again.

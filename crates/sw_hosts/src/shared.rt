@@ -2,11 +2,13 @@
 
 ghost use Rattle.std.specs.Prelude.{◌≡◌, IfOk, IfSome, IsTrue};
 ghost use Rattle.sw_wire.specs.Wanted.{is_timely};
+ghost use Rattle.sw_hosts.specs.Writable.{TellsWritable};
 
 use crate::counters::Counters;
 use crate::direction::Direction;
 use crate::shared_pause::SharedPause;
 use crate::shared_state::SharedState;
+use iso_dialect::{Profile, WriteError, from_ascii};
 use std::alloc::{AllocError, Global};
 use std::sync::atomic::{AtomicU64, Ordering};
 use std::sync::{Mutex, Wait};
@@ -18,9 +20,12 @@ use sw_wire::{
 /// What the threads of a host and its links share. A lock is held for a few steps only, and never
 /// while something is read, written or opened.
 pub struct Shared {
+    alloc: Global,
     pub times: HostTimes,
     /// How many requests may be under way at the host at once.
     pub in_flight: usize,
+    /// How the host writes messages; `None` if as the switch does.
+    pub profile: Option<Profile>,
     /// The direction to the host; its thread writes.
     pub to: Direction,
     /// The direction from the host; its thread reads.
@@ -35,14 +40,18 @@ pub struct Shared {
     heard: AtomicU64,
     /// How many answers were kept.
     answered: AtomicU64,
+    /// How many frames that cannot be written are handed over, and not taken by the writer yet.
+    untold: AtomicU64,
 }
 
 // Written out, so that no caller proves again how its parts are dropped.
 impl Drop for Shared {
     fn drop(self) {
         let Shared {
+            alloc: _,
             times: _,
             in_flight: _,
+            profile: _,
             to: _,
             from: _,
             answers: _,
@@ -52,19 +61,28 @@ impl Drop for Shared {
             pause: _,
             heard: _,
             answered: _,
+            untold: _,
         } = self;
     }
 }
 
 impl Shared {
     /// With both directions closed, no request that waits, and nothing to be written.
-    pub fn new(alloc: Global, times: HostTimes, in_flight: usize) -> Result<Shared, AllocError>
+    pub fn new(
+        alloc: Global,
+        times: HostTimes,
+        in_flight: usize,
+        profile: Option<Profile>,
+    ) -> Result<Shared, AllocError>
         ensures times { IfOk result (λ shared. shared.times ≡ times) }
         ensures in_flight { IfOk result (λ shared. shared.in_flight ≡ in_flight) }
+        ensures profile { IfOk result (λ shared. shared.profile ≡ profile) }
     {
         Ok(Shared {
+            alloc,
             times,
             in_flight,
+            profile,
             to: Direction::new(),
             from: Direction::new(),
             answers: Mutex::new(Answers::new(alloc, in_flight)?),
@@ -74,7 +92,22 @@ impl Shared {
             pause: SharedPause::new(),
             heard: AtomicU64::new(0),
             answered: AtomicU64::new(0),
+            untold: AtomicU64::new(0),
         })
+    }
+
+    /// Whether the message of a frame can be written as the host writes messages. Where there is no memory to see that,
+    /// it can: out of memory is reported only of such a message.
+    pub fn writes(&self, frame: &Frame) -> bool
+        ensures { TellsWritable self.now.profile frame.now result }
+    {
+        let Some(profile) = &self.profile else {
+            return true;
+        };
+        match from_ascii(self.alloc, profile, &frame.bytes[4..]) {
+            Ok(_) | Err(WriteError::OutOfMemory) => true,
+            Err(WriteError::NotAMessage(_) | WriteError::NotWritable(_)) => false,
+        }
     }
 
     /// Whether the host is not asked now.
@@ -162,10 +195,34 @@ impl Shared {
         next.item
     }
 
-    /// Drops the frames that nobody writes any more.
+    /// Drops the frames that nobody writes any more. Those that cannot be written are counted already.
     pub fn drop_frames<R: Wait>(&self, rt: &R) {
-        let count = self.outbox.lock(rt).clear();
-        self.counters.add_dropped(count);
+        let mut outbox = self.outbox.lock(rt);
+        let count = outbox.clear();
+        let counted = self.untold.swap(0, Ordering::SeqCst);
+        drop(outbox);
+        self.counters.add_dropped(count.saturating_sub(counted));
+    }
+
+    /// Notes that a frame that cannot be written is put into the outbox, which is locked.
+    pub fn note_unwritable(&self) {
+        self.untold.fetch_add(1, Ordering::SeqCst);
+    }
+
+    /// Whether the writer has told why of each frame that cannot be written.
+    pub fn has_told(&self) -> bool {
+        self.untold.load(Ordering::SeqCst) == 0
+    }
+
+    /// Notes what became of a frame that the writer was given. One that cannot be written is counted already.
+    pub fn note_given(&self, frame: &Frame, is_written: bool) {
+        if frame.deadline.micros < Moment::LAST.micros {
+            if !is_written {
+                self.counters.add_dropped(1);
+            }
+        } else if !self.has_told() {
+            self.untold.fetch_sub(1, Ordering::SeqCst);
+        }
     }
 
     /// Keeps a message that came for the request that it answers. The answer to an echo test is dropped, and what

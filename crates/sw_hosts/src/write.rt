@@ -167,14 +167,12 @@ fn seconds(clock: &impl Clock) -> u64 {
     }
 }
 
-// Writes a frame, and counts it as dropped if it was not written whole; whether it was.
+// Writes a frame, and notes what became of it; whether it was written whole.
 fn write_frame<W: Write>(shared: &Shared, writer: &mut W, frame: &Frame) -> bool
     ensures { WritesFrames (frame.now ∷ []) (W.contents writer.old) (W.contents writer.new) result }
 {
     let is_written = write_noted(shared, writer, &frame.bytes);
-    if !is_written {
-        shared.counters.add_dropped(1);
-    }
+    shared.note_given(frame, is_written);
     is_written
 }
 

@@ -46,7 +46,7 @@ fn nobody_is_asked_too_often(rt: HostRuntime) -> Result<(), Fail> {
     let from = Nowhere {
         asked: Arc::try_clone(&asked)?,
     };
-    let host = Host::start(&rt, alloc, to, from, seconds(10), 16)?;
+    let host = Host::start(&rt, alloc, to, from, seconds(10), 16, None)?;
     let mut link = host.link(rt)?;
     let start = Instant::now(&rt)?;
     for _ in 0..5 {

@@ -66,7 +66,7 @@ fn a_path_that_is_not_there(rt: HostRuntime) -> Result<(), Fail> {
     let alloc = rt.alloc();
     let to = WritePath::new(rt, String::from_str(alloc, "/nowhere/to")?);
     let from = ReadPath::new(rt, String::from_str(alloc, "/nowhere/from")?);
-    let host = Host::start(&rt, alloc, to, from, seconds(1), 16)?;
+    let host = Host::start(&rt, alloc, to, from, seconds(1), 16, None)?;
     let mut link = host.link(rt)?;
     let report = link.host_report()?;
     assert!(rt; report.state() == HostState::Reached);
@@ -99,7 +99,7 @@ fn an_opening_that_waits(rt: HostRuntime) -> Result<(), Fail> {
     let (from, _responses) = pipe(&rt)?;
     let number = from.as_raw_fd();
     let from = ReadPath::new(rt, format!(in alloc; "/proc/self/fd/{number}")?);
-    let host = Host::start(&rt, alloc, Slow { rt }, from, seconds(1), 16)?;
+    let host = Host::start(&rt, alloc, Slow { rt }, from, seconds(1), 16, None)?;
     let mut link = host.link(rt)?;
     let report = link.host_report()?;
     link.send(REQUEST)?;

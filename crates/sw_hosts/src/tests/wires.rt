@@ -65,7 +65,7 @@ pub fn wire_up<R: Threads + Wait + Clock + Copy + Send + 'static>(
     let (from, responses) = pipe(&files)?;
     let writer = WritePath::new(files, path_of(alloc, &to)?);
     let reader = ReadPath::new(files, path_of(alloc, &from)?);
-    let host = Host::start(&rt, alloc, writer, reader, times, 16)?;
+    let host = Host::start(&rt, alloc, writer, reader, times, 16, None)?;
     open(&files, &host.shared);
     Ok(Wired {
         host,
