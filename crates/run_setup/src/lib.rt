@@ -27,10 +27,11 @@
 //! Without a path `config_at` gives the configuration that states nothing, and no error. Of a file's
 //! bytes that are known it gives exactly the configuration, or a fault that they have, and of a file that
 //! cannot be opened that error (`config_opened`); no contract knows the bytes of a file. Of a host that is reached by
-//! streams, what is opened for writing has the path `to`, what is opened for reading has `from` (`IsReachOf`), and
-//! its threads are started with its times and its `in_flight` (`HasTimesOf`). That they go by them is only tested
-//! (`tests/hosts.py`). `words_of` has the flow's path, the journal's, the sessions, the names of all
-//! hosts, and those that are reached by streams, in the order of the configuration (`IsWordsOf`).
+//! streams, what is opened for writing has the path `to`, what is opened for reading has `from`, and it has a profile
+//! exactly if the configuration names one (`IsReachOf`). Its threads are started with that, its times and its
+//! `in_flight` (`Reach::start`, `HasTimesOf`). That they go by them is only tested (`tests/hosts.py`,
+//! `tests/profiles.py`). `words_of` has the flow's path, the journal's, the sessions, the names of all hosts, and those
+//! that are reached by streams, in the order of the configuration (`IsWordsOf`).
 #![tactic(auto)]
 
 mod book;

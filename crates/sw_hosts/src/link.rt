@@ -19,8 +19,9 @@ use sw_wire::{Awaited, Way, receive_over, send_over};
 /// takes no longer than the host's timeout and a few hundred milliseconds, whatever the host does.
 ///
 /// - `send` refuses out of memory before anything is sent, and then nothing has changed. If the host cannot
-///   be reached, or is paused, it returns `Ok`, and the message has reached nobody. If a direction is
-///   closed it has it opened, at most once a second, and waits up to 100 milliseconds for it.
+///   be reached, or is paused, or its profile cannot write the message, it returns `Ok`, and the message has
+///   reached nobody. If a direction is closed it has it opened, at most once a second, and waits up to 100
+///   milliseconds for it.
 /// - `receive` returns the answer to the message that was sent last: the first message with its key whose card,
 ///   amount, and date and time of transmission are not others. It returns `None` at once if that message reached
 ///   nobody or has no key, or its answer was returned; once a direction was closed since; and from the deadline on,
