@@ -284,7 +284,7 @@ def more_of(message, more):
 def reversal(message):
     """The 0420 of a request: its type, STAN, date and time are in field 90."""
     _, fields = messages.decode(message)
-    return messages.encode(b"0420", response_to(message, {3: fields[3], 90: b"0100" + fields[11] + fields[7] + b"0" * 22}))
+    return messages.encode(b"0420", response_to(message, {90: b"0100" + fields[11] + fields[7] + b"0" * 22}))
 
 
 def unwritten_requests(program, room):
