@@ -104,9 +104,13 @@ impl Shared {
         let Some(profile) = &self.profile else {
             return true;
         };
-        match from_ascii(self.alloc, profile, &frame.bytes[4..]) {
-            Ok(_) | Err(WriteError::OutOfMemory) => true,
-            Err(WriteError::NotAMessage(_) | WriteError::NotWritable(_)) => false,
+        let Err(fault) = from_ascii(self.alloc, profile, &frame.bytes[4..]) else {
+            return true;
+        };
+        match fault {
+            WriteError::NotAMessage(_) => false,
+            WriteError::NotWritable(_) => false,
+            WriteError::OutOfMemory => true,
         }
     }
 
