@@ -28,7 +28,8 @@ import time
 sys.dont_write_bytecode = True
 HERE = os.path.dirname(os.path.abspath(__file__))
 TOP = os.path.dirname(os.path.dirname(HERE))
-sys.path[:0] = [os.path.dirname(HERE), os.path.join(TOP, "contrib", "gateway"), os.path.join(TOP, "bench")]
+# (bench/ first: it has a module `threads` of its own)
+sys.path[:0] = [os.path.join(TOP, "bench"), os.path.dirname(HERE), os.path.join(TOP, "contrib", "gateway")]
 
 import broker  # noqa: E402
 import kills  # noqa: E402
