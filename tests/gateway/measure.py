@@ -134,6 +134,7 @@ def alone(given):
             times = [*latency.talk(process, frames, given.connections)]
             took = time.monotonic() - began
             process.stdin.close()
+            assert process.wait() == 0, process.returncode
     print(figures("one engine alone", given.requests, times, took), flush=True)
 
 
@@ -166,6 +167,8 @@ def main():
     parser.add_argument("--kills", action="store_true")
     parser.add_argument("--every", type=float, default=4)
     given = parser.parse_args()
+    if given.alone and (given.fast or given.broker or given.kills):
+        parser.error("--alone goes with none of --fast, --broker and --kills")
     given.program = FAST if given.fast else os.path.abspath(given.program)
     if given.alone:
         alone(given)
